@@ -1,0 +1,164 @@
+-- Laws of any layout: a reader given the bits of a way stands at its end, and one that stands at an end was given those bits.
+use Prim.Native.Nat.{ℕ, zero, suc, _+_, _-_, _*_, _/_, _%_, _^_, _<_, _≤_}
+use mathlib.Core.Path.{_≡_, refl, sym, ap, ap₂, subst, _∙_}
+use mathlib.Core.Bool.{Bool, true, false, cond}
+use mathlib.Core.List.{List, [], _∷_, _++_, append-nil, append-assoc}
+use native.Mathlib.Omega.{arith}
+use native.Mathlib.Nat.{sub-self, sub-zero, pow-suc}
+use lib.Arith.{digits-lt}
+use lib.Dec.{ltb, lit<}
+use borrow.Author.Tests.{lt-ltb, le-ltb, ltb-true, ltb-false}
+use Rattle.wire.specs.Bits.{bits}
+use Rattle.wire.specs.BitsLaws.{bits-snoc, half-lt}
+use Rattle.wire.specs.Fields.{Span, field, raw}
+use Rattle.wire.specs.Layout.{Layout, done, part, Way, end, along, Walker, wide, enter, turn, took, takes}
+
+-- READING A WAY
+
+pub takes-append : {A : Type 0} (r : Walker A) (xs ys : List ℕ) → takes r (xs ++ ys) ≡ takes (takes r xs) ys
+takes-append r [] ys = refl
+takes-append r (x ∷ xs) ys = takes-append (took r x) xs ys
+
+module _ {A : Type 0} (w : ℕ) (k : ℕ → Layout A) where
+  abbrev inside : ℕ → ℕ → Walker A
+  inside left v = record { rest = part w k; left = left; value = v }
+
+  -- the bit that is no field's last
+  took-inside : (left v b : ℕ) → 1 < left → took (inside left v) b ≡ inside (left - 1) (v * 2 + b)
+  took-inside left v b h = rw (lt-ltb 1 left h)
+
+  -- the last bit of the field
+  took-last : (left v b : ℕ) → left ≤ 1 → took (inside left v) b ≡ enter (k (v * 2 + b))
+  took-last left v b h = rw (le-ltb 1 left h)
+
+  reads-part : (n v : ℕ) → v < 2 ^ n → n < w → takes (inside w 0) (bits n v) ≡ inside (w - n) v
+  unfolding bits
+  reads-part zero v h q = let z : v ≡ 0 = omega (arith, h) in rw (z, sub-zero)
+  reads-part (suc n) v h q =
+      let d : v / 2 * 2 + v % 2 ≡ v = omega arith in
+      let m : w - n - 1 ≡ w - suc n = omega arith in
+      ap (λ (x : ℕ). takes (inside w 0) (bits (suc n) x)) (sym d)
+      ∙ ap (takes (inside w 0)) (bits-snoc n (v / 2) (v % 2) (omega arith))
+      ∙ takes-append (inside w 0) (bits n (v / 2)) (v % 2 ∷ [])
+      ∙ ap (λ (r : Walker A). took r (v % 2)) (reads-part n (v / 2) (half-lt n h) (omega arith))
+      ∙ took-inside (w - n) (v / 2) (v % 2) (omega arith)
+      ∙ rw (d, m)
+
+reads-field : {A : Type 0} (w : ℕ) (k : ℕ → Layout A) (v : ℕ) → 0 < w → v < 2 ^ w → takes (enter (part w k)) (bits w v) ≡ enter (k v)
+reads-field zero k v z h = absurd (omega arith)
+reads-field (suc n) k v z h =
+    let d : v / 2 * 2 + v % 2 ≡ v = omega arith in
+    ap (λ (x : ℕ). takes (enter (part (suc n) k)) (bits (suc n) x)) (sym d)
+    ∙ ap (takes (enter (part (suc n) k))) (bits-snoc n (v / 2) (v % 2) (omega arith))
+    ∙ takes-append (enter (part (suc n) k)) (bits n (v / 2)) (v % 2 ∷ [])
+    ∙ ap (λ (r : Walker _). took r (v % 2)) (reads-part (suc n) k n (v / 2) (half-lt n h) (omega arith))
+    ∙ took-last (suc n) k (suc n - n) (v / 2) (v % 2) (omega arith)
+    ∙ ap (λ (x : ℕ). enter (k x)) d
+
+pub reads-way : {A : Type 0} (l : Layout A) (y : Way l) → takes (enter l) (raw (along l y)) ≡ enter (done (end l y))
+reads-way (done a) y = refl
+reads-way (part w k) y =
+    takes-append (enter (part w k)) (bits w (y .0)) (raw (along (k (y .0)) (y .3)))
+    ∙ ap (λ (r : Walker _). takes r (raw (along (k (y .0)) (y .3)))) (reads-field w k (y .0) (y .1) (y .2))
+    ∙ reads-way (k (y .0)) (y .3)
+
+-- WHERE A READER STANDS
+
+-- from the layout l, past these fields, to the layout t
+pub data On {A : Type 0} (l : Layout A) : Layout A → List Span → Type 0 where
+  new : On l l []
+  next : (w : ℕ) (k : ℕ → Layout A) (ss : List Span) (v : ℕ) → On l (part w k) ss → 0 < w → v < 2 ^ w → On l (k v) (ss ++ (field w v ∷ []))
+
+-- no field is empty
+abbrev pub Sized : {A : Type 0} → Layout A → Type 0
+Sized (done a) = Unit {0}
+Sized (part w k) = (0 < w) × ((v : ℕ) → Sized (k v))
+
+-- it has taken the bits xs: those of the fields past, and of the field that it is in
+pub record Stood {A : Type 0} (l : Layout A) (r : Walker A) (xs : List ℕ) : Type 0 where
+  pub past : List Span
+  pub on : On l (r .rest) past
+  pub sized : Sized (r .rest)
+  pub same : xs ≡ raw past ++ bits (wide (r .rest) - r .left) (r .value)
+  pub most : r .left ≤ wide (r .rest)
+  pub small : r .value < 2 ^ (wide (r .rest) - r .left)
+  -- and some of that field's bits are to come
+  pub some : 0 < wide (r .rest) → 0 < r .left
+
+raw-snoc : (ss : List Span) (s : Span) → raw (ss ++ (s ∷ [])) ≡ raw ss ++ bits (s .width) (s .value)
+raw-snoc [] s = append-nil (bits (s .width) (s .value))
+raw-snoc (x ∷ ss) s =
+    ap (λ (l : List ℕ). bits (x .width) (x .value) ++ l) (raw-snoc ss s)
+    ∙ sym (append-assoc (bits (x .width) (x .value)) (raw ss) (bits (s .width) (s .value)))
+
+bits-none : (v : ℕ) → bits 0 v ≡ []
+unfolding bits
+bits-none v = refl
+
+module _ {A : Type 0} (l : Layout A) where
+  pub stood-enter : (t : Layout A) (ss : List Span) (xs : List ℕ) → On l t ss → Sized t → xs ≡ raw ss → Stood l (enter t) xs
+  stood-enter t ss xs o z e =
+      let n : wide t - wide t ≡ 0 = sub-self (wide t) in
+      record {
+        past = ss;
+        on = o;
+        sized = z;
+        same = e ∙ sym (append-nil (raw ss)) ∙ ap (λ (c : List ℕ). raw ss ++ c) (sym (ap (λ (m : ℕ). bits m 0) n ∙ bits-none 0));
+        most = omega arith;
+        small = rw n (lit< tt);
+        some = λ (h : 0 < wide t). h;
+      }
+
+  pub stood-new : Sized l → Stood l (enter l) []
+  stood-new z = stood-enter l [] [] new z refl
+
+  -- a bit taken is appended
+  pub stood-took : (w : ℕ) (k : ℕ → Layout A) (left v b : ℕ) (xs : List ℕ) → Stood l (inside w k left v) xs → b < 2 → Stood l (took (inside w k left v) b) (xs ++ (b ∷ []))
+  stood-took w k left v b xs s h = go (ltb 1 left) refl
+    where
+      z : 0 < left
+      z = s .some (s .sized .0)
+
+      more : (m : ℕ) → m ≡ suc (w - left) → xs ++ (b ∷ []) ≡ raw (s .past) ++ bits m (v * 2 + b)
+      more m e =
+          ap (λ (c : List ℕ). c ++ (b ∷ [])) (s .same)
+          ∙ append-assoc (raw (s .past)) (bits (w - left) v) (b ∷ [])
+          ∙ ap (λ (c : List ℕ). raw (s .past) ++ c) (sym (ap (λ (n : ℕ). bits n (v * 2 + b)) e ∙ bits-snoc (w - left) v b h))
+
+      less : (m : ℕ) → m ≡ suc (w - left) → v * 2 + b < 2 ^ m
+      less m e = rw e (omega (arith, pow-suc 2 (w - left), digits-lt (s .small) h))
+
+      go : (t : Bool) → ltb 1 left ≡ t → Stood l (cond t (inside w k (left - 1) (v * 2 + b)) (enter (k (v * 2 + b)))) (xs ++ (b ∷ []))
+      go true e =
+          let m : w - (left - 1) ≡ suc (w - left) = omega (arith, ltb-true 1 left e, s .most) in
+          let q : 1 < left = ltb-true 1 left e in
+          record {
+            past = s .past;
+            on = s .on;
+            sized = s .sized;
+            same = more (w - (left - 1)) m;
+            most = omega (arith, s .most);
+            small = less (w - (left - 1)) m;
+            some = λ (_ : 0 < w). omega arith;
+          }
+      go false e =
+          let m : w ≡ suc (w - left) = omega (arith, ltb-false 1 left e, s .most, z) in
+          let f : Span = field w (v * 2 + b) in
+          stood-enter (k (v * 2 + b)) (s .past ++ (f ∷ [])) (xs ++ (b ∷ []))
+          (next w k (s .past) (v * 2 + b) (s .on) (s .sized .0) (less w m))
+          (s .sized .1 (v * 2 + b))
+          (more w m ∙ sym (raw-snoc (s .past) f))
+
+  -- a way to where the fields lead
+  on-way : (t : Layout A) (ss : List Span) → On l t ss → (z : Way t) → (y : Way l) × (end l y ≡ end t z) × (along l y ≡ ss ++ along t z)
+  on-way t ss new z = (z, refl, refl)
+  on-way t ss (next w k rs v o q h) z =
+      let m = on-way (part w k) rs o (v, q, h, z) in
+      (m .0, m .1, m .2 ∙ sym (append-assoc rs (field w v ∷ []) (along (k v) z)))
+
+  -- a reader at an end has taken the bits of a way to it
+  pub stood-end : (a : A) (left v : ℕ) (xs : List ℕ) → Stood l (record { rest = done a; left = left; value = v }) xs → (y : Way l) × (end l y ≡ a) × (xs ≡ raw (along l y))
+  stood-end a left v xs s =
+      let m = on-way (done a) (s .past) (s .on) tt in
+      let n : 0 - left ≡ 0 = omega arith in
+      (m .0, m .1, s .same ∙ ap (λ (c : List ℕ). raw (s .past) ++ c) (ap (λ (i : ℕ). bits i v) n ∙ bits-none v) ∙ append-nil (raw (s .past)) ∙ ap raw (sym (m .2 ∙ append-nil (s .past))))

@@ -1,0 +1,17 @@
+pub mod Numbers
+pub mod Bits
+pub mod BitsLaws
+pub mod Crc
+pub mod CrcLaws
+pub mod Stuffing
+pub mod Unstuffing
+pub mod StuffingLaws
+pub mod Fields
+pub mod Image
+pub mod Legal
+pub mod Layout
+pub mod LayoutLaws
+pub mod FramesLaws
+pub mod ImageLaws
+pub mod Samples
+pub mod SamplesLaws

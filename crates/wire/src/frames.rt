@@ -1,0 +1,21 @@
+// Frames (01 "How bits and frames are held").
+use crate::idents::Ident;
+
+// How many data bytes a record has room for.
+pub const ROOM: usize = 8;
+
+// `count` bytes are given; what stands behind them in `bytes` is no part of the frame.
+pub struct Frame {
+    pub ident: Ident,
+    pub remote: bool,
+    pub code: u8,
+    pub count: u8,
+    pub bytes: [u8; ROOM],
+}
+
+// A frame as it came off the wire: unused bytes are 0. `noted` is a sum: 4 if SRR came dominant, 2 if r1 came recessive, 1 if r0 came recessive.
+pub struct Received {
+    pub frame: Frame,
+    pub acknowledged: bool,
+    pub noted: u8,
+}
