@@ -7,7 +7,8 @@ use Rattle.wire.specs.BitsLaws.{bits-step}
 use Rattle.wire.specs.Crc.{crcStep, crcFrom}
 
 module _ (w g r x : ℕ) where
-  pub crc-turn : (r′ b n v : ℕ) → 0 < n → b ≡ bitAt v (n - 1) → r′ ≡ crcStep w g r b → crcFrom w g r (bits n v) ≡ x → crcFrom w g r′ (bits (n - 1) v) ≡ x
+  pub crc-turn : (r′ b n v : ℕ) → 0 < n → b ≡ bitAt v (n - 1) → r′ ≡ crcStep w g r b → crcFrom w g r (bits n v) ≡ x
+      → crcFrom w g r′ (bits (n - 1) v) ≡ x
   crc-turn r′ b n v h d e q = rw (e, d) (sym (ap (crcFrom w g r) (bits-step n v h)) ∙ q)
 
   pub crc-end : (n v : ℕ) → n ≤ 0 → crcFrom w g r (bits n v) ≡ x → r ≡ x

@@ -1,6 +1,6 @@
 -- Numbers as bits, highest first (01 "The wire image"; 001 6.6.16), and the exclusive or of bits.
 use Prim.Native.Nat.{ℕ, zero, suc, _+_, _*_, _/_, _%_, _^_}
-use mathlib.Core.List.{List, [], _∷_, _++_}
+use mathlib.Core.List.{List, [], _∷_}
 use lib.Bits.{differ}
 
 -- the bit of v that has weight 2 to the power of n

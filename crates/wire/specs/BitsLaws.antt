@@ -2,7 +2,7 @@
 use Prim.Native.Nat.{ℕ, zero, suc, _+_, _-_, _*_, _/_, _%_, _^_, _<_, _≤_}
 use mathlib.Core.Path.{_≡_, refl, sym, ap, _∙_}
 use mathlib.Core.List.{List, [], _∷_, _++_}
-use native.Mathlib.Nat.{pow-suc, zero-add, add-zero, suc-add, add-comm, mul-comm, mul-assoc, add-mul-div-right, mul-add-mod-self-right, mod-eq-of-lt, div-eq-of-lt, not-suc-le-zero}
+use native.Mathlib.Nat.{pow-suc, zero-add, suc-add, add-comm, mul-comm, mul-assoc, add-mul-div-right, mul-add-mod-self-right, mod-eq-of-lt, div-eq-of-lt, not-suc-le-zero}
 use native.Mathlib.Numerals.{add-one, sub-one}
 use native.Mathlib.Omega.{arith}
 use lib.Arith.{lt-one, digits-lt, digits-div, digits-mod}
@@ -71,6 +71,10 @@ half-lt w p = omega (arith, pow-suc 2 w)
 abbrev pub AllBits : List ℕ → Type 0
 AllBits [] = Unit {0}
 AllBits (b ∷ bs) = (b < 2) × AllBits bs
+
+pub all-bits-append : (xs ys : List ℕ) → AllBits xs → AllBits ys → AllBits (xs ++ ys)
+all-bits-append [] ys p q = q
+all-bits-append (x ∷ xs) ys p q = (p .0, all-bits-append xs ys (p .1) q)
 
 pub bits-are : (w v : ℕ) → AllBits (bits w v)
 unfolding bits

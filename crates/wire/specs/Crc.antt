@@ -1,5 +1,5 @@
 -- The cyclic check (01 "The wire image"; 001 6.6.4.4), for any width w of the register, generator g without its top term, and start.
-use Prim.Native.Nat.{ℕ, _-_, _*_, _/_, _%_, _^_}
+use Prim.Native.Nat.{ℕ, _-_, _*_, _%_, _^_}
 use mathlib.Core.List.{List, [], _∷_}
 use mathlib.Core.Bool.{cond}
 use lib.Dec.{eqb}

@@ -1,11 +1,11 @@
 -- The layout of frames and the fields of images are one: along any way stand the fields of what was read, which is in its ranges;
 -- and to whatever is in its ranges there is a way.
-use Prim.Native.Nat.{ℕ, zero, suc, _+_, _-_, _*_, _/_, _%_, _^_, _<_, _≤_}
-use mathlib.Core.Path.{_≡_, refl, sym, ap, ap₂, subst, _∙_}
+use Prim.Native.Nat.{ℕ, zero, suc, _+_, _-_, _*_, _/_, _^_, _<_}
+use mathlib.Core.Path.{_≡_, refl, sym, ap, _∙_}
 use mathlib.Core.Bool.{Bool, true, false, cond}
 use mathlib.Core.List.{List, [], _∷_, _++_, append-nil, append-assoc}
 use native.Mathlib.Omega.{arith}
-use lib.Dec.{eqb, ltb, lit<}
+use lib.Dec.{eqb, lit<}
 use lib.ListN.{length}
 use borrow.Author.Tests.{eqb-true, eqb-false}
 use Rattle.wire.specs.declared.idents.Ident.{Ident}
@@ -57,11 +57,14 @@ sized-frames = (lit< tt, λ (u : ℕ). (lit< tt, λ (s : ℕ). (lit< tt, λ (i :
 abbrev Tells : Layout Got → List Span → Type 0
 Tells l ss = (y : Way l) → GotIn (end l y) × (ss ++ along l y ≡ gotFields (end l y))
 
-tells-next : (w v : ℕ) (l : Layout Got) (ss : List Span) (y : Way l) → GotIn (end l y) × ((ss ++ (field w v ∷ [])) ++ along l y ≡ gotFields (end l y)) → GotIn (end l y) × (ss ++ (field w v ∷ along l y) ≡ gotFields (end l y))
+tells-next : (w v : ℕ) (l : Layout Got) (ss : List Span) (y : Way l)
+    → GotIn (end l y) × ((ss ++ (field w v ∷ [])) ++ along l y ≡ gotFields (end l y))
+    → GotIn (end l y) × (ss ++ (field w v ∷ along l y) ≡ gotFields (end l y))
 tells-next w v l ss y t = (t .0, sym (append-assoc ss (field w v ∷ []) (along l y)) ∙ t .1)
 
 -- data bytes: so many, each in its range
-tells-bytes : (n : ℕ) (k : List ℕ → Layout Got) (ss : List Span) → ((cs : List ℕ) → length cs ≡ n → AllBytes cs → Tells (k cs) (ss ++ dataFields cs)) → Tells (bytesOf n k) ss
+tells-bytes : (n : ℕ) (k : List ℕ → Layout Got) (ss : List Span)
+    → ((cs : List ℕ) → length cs ≡ n → AllBytes cs → Tells (k cs) (ss ++ dataFields cs)) → Tells (bytesOf n k) ss
 tells-bytes zero k ss h y =
     let t = h [] refl tt y in
     (t .0, ap (λ (l : List Span). l ++ along (k []) y) (sym (append-nil ss)) ∙ t .1)
@@ -123,7 +126,8 @@ tells-extended u s hu hs y = go (y .0) (y .2) (y .3 .0) (y .3 .2) (y .3 .3 .0) (
 pub frames-told : (y : Way frames) → GotIn (end frames y) × (along frames y ≡ gotFields (end frames y))
 frames-told y = go (y .0) (y .2) (y .3 .0) (y .3 .2) (y .3 .3 .0) (y .3 .3 .2) (eqb (y .3 .3 .0) 0) refl (y .3 .3 .3)
   where
-    go : (u : ℕ) → u < 2 ^ 11 → (s : ℕ) → s < 2 → (i : ℕ) → i < 2 → (t : Bool) → eqb i 0 ≡ t → Tells (cond t (baseRest u s) (extendedRest u s)) (field 11 u ∷ field 1 s ∷ field 1 i ∷ [])
+    go : (u : ℕ) → u < 2 ^ 11 → (s : ℕ) → s < 2 → (i : ℕ) → i < 2 → (t : Bool) → eqb i 0 ≡ t
+        → Tells (cond t (baseRest u s) (extendedRest u s)) (field 11 u ∷ field 1 s ∷ field 1 i ∷ [])
     go u hu s hs i hi true e z = let n : i ≡ 0 = eqb-true i 0 e in rw n (tells-base u s hu hs z)
     go u hu s hs i hi false e z = let n : i ≡ 1 = omega (arith, eqb-false i 0 e) in rw n (tells-extended u s hu hs z)
 

@@ -6,7 +6,7 @@ use Rattle.wire.specs.declared.frames.Frame.{Frame}
 use Rattle.wire.specs.declared.frames.Received.{Received}
 use Rattle.wire.specs.Numbers.{crcWidth}
 use Rattle.wire.specs.Crc.{crc}
-use Rattle.wire.specs.Stuffing.{Sample, code, wire}
+use Rattle.wire.specs.Stuffing.{code, wire}
 use Rattle.wire.specs.Fields.{Span, field, bare, raw, coded, header, carriedBytes, dataFields}
 
 abbrev pub startOfFrame : Span

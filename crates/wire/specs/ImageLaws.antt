@@ -1,66 +1,29 @@
 -- Laws of images: an image is a start of frame, the stuffed bits of what is read, and a closing of plain bits; how long it is; and
 -- that bits tell their fields.
-use Prim.Native.Nat.{ℕ, zero, suc, _+_, _-_, _*_, _^_, _<_, _≤_}
-use mathlib.Core.Path.{_≡_, refl, sym, ap, ap₂, _∙_}
-use mathlib.Core.Bool.{Bool, true, false, cond}
-use mathlib.Core.List.{List, [], _∷_, _++_, append-nil, append-assoc}
+use Prim.Native.Nat.{ℕ, _+_, _-_, _*_, _<_, _≤_}
+use mathlib.Core.Path.{_≡_, refl, sym, ap, ap₂, subst, _∙_}
+use mathlib.Core.Bool.{Bool, true, false}
+use mathlib.Core.List.{List, [], _∷_, _++_, append-assoc}
 use native.Mathlib.Omega.{arith}
-use lib.Dec.{ltb, lit<}
-use lib.ListN.{length, replicate, take, length-append, length-take, length-replicate}
-use borrow.Author.Tests.{ltb-true}
+use lib.Dec.{lit<}
+use lib.ListN.{length, replicate, length-append, length-take}
 use Rattle.wire.specs.declared.idents.Ident.{Ident}
 use Rattle.wire.specs.declared.idents.Ident.the-variants.{Base, Extended}
 use Rattle.wire.specs.declared.frames.Frame.{Frame}
 use Rattle.wire.specs.declared.frames.Received.{Received}
 use Rattle.wire.specs.declared.runs.Run.{Run}
-use Rattle.wire.specs.Numbers.{crcWidth, room, longestBase, longestExtended}
-use Rattle.wire.specs.Bits.{bits, xors}
-use Rattle.wire.specs.BitsLaws.{length-bits}
-use Rattle.wire.specs.Crc.{crcStep, crc}
-use Rattle.wire.specs.Stuffing.{none, ran, Coding, dynamic, plain, Coded, wire, codeFrom, all, stuffFrom}
-use Rattle.wire.specs.StuffingLaws.{wire-append, all-append, code-append, code-plain, runAfter, stuff-length}
+use Rattle.wire.specs.Numbers.{crcWidth, longestBase, longestExtended}
+use Rattle.wire.specs.Bits.{bits}
+use Rattle.wire.specs.BitsLaws.{length-bits, AllBits, all-bits-append}
+use Rattle.wire.specs.Crc.{crc}
+use Rattle.wire.specs.Stuffing.{none, ran, dynamic, plain, Coded, wire, codeFrom, all, stuffFrom}
+use Rattle.wire.specs.StuffingLaws.{wire-append, code-append, code-plain, runAfter, stuff-bits, stuff-length}
 use Rattle.wire.specs.Fields.{Span, field, bare, raw, coded, header, carried, carriedBytes, dataFields}
-use Rattle.wire.specs.Image.{startOfFrame, body, slot, ending, fields, image}
-use Rattle.wire.specs.Layout.{Layout, done, Way, end, along, Walker, enter, takes, Got, frames}
-use Rattle.wire.specs.LayoutLaws.{reads-way}
+use Rattle.wire.specs.FieldsLaws.{raw-append, coded-append, Alike, alike-append, coded-alike, header-stuffed, data-stuffed, raw-bits, headerBits, length-header, length-data, carried-most}
+use Rattle.wire.specs.Image.{startOfFrame, body, slot, fields, image}
+use Rattle.wire.specs.Layout.{done, end, Walker, enter, takes, Got, frames}
+use Rattle.wire.specs.LayoutLaws.{Reads, reads-way}
 use Rattle.wire.specs.FramesLaws.{gotFields, GotIn, frames-told, frames-way}
-
--- FIELDS, PART BY PART
-
-pub raw-append : (xs ys : List Span) → raw (xs ++ ys) ≡ raw xs ++ raw ys
-raw-append [] ys = refl
-raw-append (x ∷ xs) ys =
-    ap (λ (l : List ℕ). bits (x .width) (x .value) ++ l) (raw-append xs ys)
-    ∙ sym (append-assoc (bits (x .width) (x .value)) (raw xs) (raw ys))
-
-pub coded-append : (xs ys : List Span) → coded (xs ++ ys) ≡ coded xs ++ coded ys
-coded-append [] ys = refl
-coded-append (x ∷ xs) ys =
-    ap (λ (l : List Coded). all (x .how) (bits (x .width) (x .value)) ++ l) (coded-append xs ys)
-    ∙ sym (append-assoc (all (x .how) (bits (x .width) (x .value))) (coded xs) (coded ys))
-
--- fields that are all coded alike
-abbrev Alike : Coding → List Span → Type 0
-Alike c [] = Unit {0}
-Alike c (x ∷ xs) = (x .how ≡ c) × Alike c xs
-
-alike-append : (c : Coding) (xs ys : List Span) → Alike c xs → Alike c ys → Alike c (xs ++ ys)
-alike-append c [] ys p q = q
-alike-append c (x ∷ xs) ys p q = (p .0, alike-append c xs ys (p .1) q)
-
-coded-alike : (c : Coding) (xs : List Span) → Alike c xs → coded xs ≡ all c (raw xs)
-coded-alike c [] h = refl
-coded-alike c (x ∷ xs) h =
-    ap₂ (λ (d : Coding) (l : List Coded). all d (bits (x .width) (x .value)) ++ l) (h .0) (coded-alike c xs (h .1))
-    ∙ sym (all-append c (bits (x .width) (x .value)) (raw xs))
-
-stuffed-header : (i : Ident) (remote : Bool) (code noted : ℕ) → Alike dynamic (header i remote code noted)
-stuffed-header (Base i) remote code noted = (refl, (refl, (refl, (refl, (refl, tt)))))
-stuffed-header (Extended i) remote code noted = (refl, (refl, (refl, (refl, (refl, (refl, (refl, (refl, tt))))))))
-
-stuffed-data : (bs : List ℕ) → Alike dynamic (dataFields bs)
-stuffed-data [] = tt
-stuffed-data (b ∷ bs) = (refl, stuffed-data bs)
 
 -- AN IMAGE'S PARTS
 
@@ -99,7 +62,8 @@ fields-split r =
     let d : List Span = dataFields (carriedBytes (r .frame)) in
     regroup startOfFrame h d (field crcWidth (gotOf r .crc)) (field 1 1) (bare 1 (slot (r .acknowledged)) ∷ bare 1 1 ∷ bare 7 127 ∷ [])
   where
-    regroup : (s : Span) (h d : List Span) (c e : Span) (l : List Span) → (s ∷ (h ++ d)) ++ (c ∷ e ∷ l) ≡ ((s ∷ (h ++ (d ++ (c ∷ [])))) ++ (e ∷ [])) ++ l
+    regroup : (s : Span) (h d : List Span) (c e : Span) (l : List Span)
+        → (s ∷ (h ++ d)) ++ (c ∷ e ∷ l) ≡ ((s ∷ (h ++ (d ++ (c ∷ [])))) ++ (e ∷ [])) ++ l
     regroup s h d c e l = simp append-assoc
 
 front-raw : (r : Received) → raw (front r) ≡ 0 ∷ stuffedBits r
@@ -112,8 +76,8 @@ front-stuffed r =
     let d : List Span = dataFields (carriedBytes (r .frame)) in (
       refl,
       alike-append dynamic (gotFields (gotOf r)) (field 1 1 ∷ [])
-          (alike-append dynamic h (d ++ (field crcWidth (gotOf r .crc) ∷ [])) (stuffed-header (r .frame .ident) (r .frame .remote) (r .frame .code) (r .noted))
-          (alike-append dynamic d (field crcWidth (gotOf r .crc) ∷ []) (stuffed-data (carriedBytes (r .frame))) (refl, tt)))
+          (alike-append dynamic h (d ++ (field crcWidth (gotOf r .crc) ∷ [])) (header-stuffed (r .frame .ident) (r .frame .remote) (r .frame .code) (r .noted))
+          (alike-append dynamic d (field crcWidth (gotOf r .crc) ∷ []) (data-stuffed (carriedBytes (r .frame))) (refl, tt)))
           (refl, tt),
     )
 
@@ -134,27 +98,17 @@ image-parts r =
     ∙ wire-append (codeFrom none a) (codeFrom (runAfter none a) b)
     ∙ ap (λ (l : List ℕ). wire (codeFrom none a) ++ l) (code-plain (runAfter none a) (closing (r .acknowledged)))
 
+-- EVERY SAMPLE IS A BIT
+
+closing-bits : (t : Bool) → AllBits (closing t)
+closing-bits t = subst AllBits (closing-raw t) (raw-bits (bare 1 (slot t) ∷ bare 1 1 ∷ bare 7 127 ∷ []))
+
+pub image-bits : (r : Received) → AllBits (image r)
+image-bits r =
+    let b : AllBits (stuffedBits r) = all-bits-append (raw (gotFields (gotOf r))) (1 ∷ []) (raw-bits (gotFields (gotOf r))) (lit< tt, tt) in
+    subst AllBits (sym (image-parts r)) (lit< tt, all-bits-append (stuffFrom begun (stuffedBits r)) (closing (r .acknowledged)) (stuff-bits begun (stuffedBits r) b) (closing-bits (r .acknowledged)))
+
 -- LENGTH
-
-length-data : (bs : List ℕ) → length (raw (dataFields bs)) ≡ 8 * length bs
-length-data [] = refl
-length-data (b ∷ bs) = length-append (bits 8 b) (raw (dataFields bs)) ∙ omega (arith, length-bits 8 b, length-data bs)
-
-abbrev headerBits : Ident → ℕ
-headerBits (Base i) = 18
-headerBits (Extended i) = 38
-
-length-header : (i : Ident) (remote : Bool) (code noted : ℕ) → length (raw (header i remote code noted)) ≡ headerBits i
-length-header (Base i) remote code noted = simp (length-append, length-bits)
-length-header (Extended i) remote code noted = simp (length-append, length-bits)
-
-pub carried-most : (remote : Bool) (code : ℕ) → carried remote code ≤ room
-carried-most true code = omega arith
-carried-most false code = go (ltb code room) refl
-  where
-    go : (t : Bool) → ltb code room ≡ t → cond t code room ≤ room
-    go true e = omega (arith, ltb-true code room e)
-    go false e = omega arith
 
 stuffed-most : (r : Received) → length (stuffedBits r) ≤ headerBits (r .frame .ident) + 80
 stuffed-most r =
@@ -204,13 +158,11 @@ same-end : (g h : Got) → enter (done g) ≡ enter (done h) → g ≡ h
 same-end g h e = let d : done g ≡ done h = ap (λ (r : Walker Got). r .rest) e in cc
 
 -- what is read from the bits of its fields
-pub read-back : (g : Got) → GotIn g → takes (enter frames) (raw (gotFields g)) ≡ enter (done g)
+pub read-back : (g : Got) → GotIn g → Reads (enter frames) (raw (gotFields g)) (enter (done g))
 read-back g p =
     let y = frames-way g p in
-    ap (λ (x : Got). takes (enter frames) (raw (gotFields x))) (sym (y .1))
-    ∙ ap (λ (l : List Span). takes (enter frames) (raw l)) (sym (frames-told (y .0) .1))
-    ∙ reads-way frames (y .0)
-    ∙ ap (λ (x : Got). enter (done x)) (y .1)
+    subst (λ (x : Got). Reads (enter frames) (raw (gotFields x)) (enter (done x))) (y .1)
+    (subst (λ (l : List Span). Reads (enter frames) (raw l) (enter (done (end frames (y .0))))) (frames-told (y .0) .1) (reads-way frames (y .0)))
 
 pub raw-same : (g h : Got) → GotIn g → GotIn h → raw (gotFields g) ≡ raw (gotFields h) → g ≡ h
-raw-same g h p q e = same-end g h (sym (read-back g p) ∙ ap (takes (enter frames)) e ∙ read-back h q)
+raw-same g h p q e = same-end g h (sym (read-back g p .ends) ∙ ap (takes (enter frames)) e ∙ read-back h q .ends)

@@ -1,6 +1,6 @@
 -- Laws of any layout: a reader given the bits of a way stands at its end, and one that stands at an end was given those bits.
 use Prim.Native.Nat.{ℕ, zero, suc, _+_, _-_, _*_, _/_, _%_, _^_, _<_, _≤_}
-use mathlib.Core.Path.{_≡_, refl, sym, ap, ap₂, subst, _∙_}
+use mathlib.Core.Path.{_≡_, refl, sym, ap, subst, _∙_}
 use mathlib.Core.Bool.{Bool, true, false, cond}
 use mathlib.Core.List.{List, [], _∷_, _++_, append-nil, append-assoc}
 use native.Mathlib.Omega.{arith}
@@ -11,7 +11,7 @@ use borrow.Author.Tests.{lt-ltb, le-ltb, ltb-true, ltb-false}
 use Rattle.wire.specs.Bits.{bits}
 use Rattle.wire.specs.BitsLaws.{bits-snoc, half-lt}
 use Rattle.wire.specs.Fields.{Span, field, raw}
-use Rattle.wire.specs.Layout.{Layout, done, part, Way, end, along, Walker, wide, enter, turn, took, takes}
+use Rattle.wire.specs.Layout.{Layout, done, part, Way, end, along, Walker, wide, enter, took, takes}
 
 -- READING A WAY
 
@@ -19,48 +19,58 @@ pub takes-append : {A : Type 0} (r : Walker A) (xs ys : List ℕ) → takes r (x
 takes-append r [] ys = refl
 takes-append r (x ∷ xs) ys = takes-append (took r x) xs ys
 
+-- a field is to be read
+abbrev pub Open : {A : Type 0} → Layout A → Type 0
+Open (done a) = ⊥
+Open (part w k) = Unit {0}
+
+-- one is, before each of these bits
+abbrev pub Alive : {A : Type 0} → Walker A → List ℕ → Type 0
+Alive r [] = Unit {0}
+Alive r (b ∷ bs) = Open (r .rest) × Alive (took r b) bs
+
+pub record Reads {A : Type 0} (r : Walker A) (xs : List ℕ) (r′ : Walker A) : Type 0 where
+  pub ends : takes r xs ≡ r′
+  pub alive : Alive r xs
+
+alive-append : {A : Type 0} (r : Walker A) (xs ys : List ℕ) → Alive r xs → Alive (takes r xs) ys → Alive r (xs ++ ys)
+alive-append r [] ys p q = q
+alive-append r (x ∷ xs) ys p q = (p .0, alive-append (took r x) xs ys (p .1) q)
+
+then : {A : Type 0} {r r′ r″ : Walker A} {xs ys : List ℕ} → Reads r xs r′ → Reads r′ ys r″ → Reads r (xs ++ ys) r″
+then {A} {r} {r′} {r″} {xs} {ys} a b =
+    record {
+      ends = takes-append r xs ys ∙ ap (λ (s : Walker A). takes s ys) (a .ends) ∙ b .ends;
+      alive = alive-append r xs ys (a .alive) (subst (λ (s : Walker A). Alive s ys) (sym (a .ends)) (b .alive));
+    }
+
 module _ {A : Type 0} (w : ℕ) (k : ℕ → Layout A) where
   abbrev inside : ℕ → ℕ → Walker A
   inside left v = record { rest = part w k; left = left; value = v }
 
-  -- the bit that is no field's last
-  took-inside : (left v b : ℕ) → 1 < left → took (inside left v) b ≡ inside (left - 1) (v * 2 + b)
-  took-inside left v b h = rw (lt-ltb 1 left h)
-
-  -- the last bit of the field
-  took-last : (left v b : ℕ) → left ≤ 1 → took (inside left v) b ≡ enter (k (v * 2 + b))
-  took-last left v b h = rw (le-ltb 1 left h)
-
-  reads-part : (n v : ℕ) → v < 2 ^ n → n < w → takes (inside w 0) (bits n v) ≡ inside (w - n) v
+  reads-part : (n v : ℕ) → v < 2 ^ n → n < w → Reads (inside w 0) (bits n v) (inside (w - n) v)
   unfolding bits
-  reads-part zero v h q = let z : v ≡ 0 = omega (arith, h) in rw (z, sub-zero)
+  reads-part zero v h q = let z : v ≡ 0 = omega (arith, h) in record { ends = rw (z, sub-zero); alive = tt }
   reads-part (suc n) v h q =
+      let e : 1 < w - n = omega arith in
       let d : v / 2 * 2 + v % 2 ≡ v = omega arith in
       let m : w - n - 1 ≡ w - suc n = omega arith in
-      ap (λ (x : ℕ). takes (inside w 0) (bits (suc n) x)) (sym d)
-      ∙ ap (takes (inside w 0)) (bits-snoc n (v / 2) (v % 2) (omega arith))
-      ∙ takes-append (inside w 0) (bits n (v / 2)) (v % 2 ∷ [])
-      ∙ ap (λ (r : Walker A). took r (v % 2)) (reads-part n (v / 2) (half-lt n h) (omega arith))
-      ∙ took-inside (w - n) (v / 2) (v % 2) (omega arith)
-      ∙ rw (d, m)
+      let one : Reads (inside (w - n) (v / 2)) (v % 2 ∷ []) (inside (w - suc n) v) = record { ends = rw (lt-ltb 1 (w - n) e, d, m); alive = (tt, tt) } in
+      subst (λ (xs : List ℕ). Reads (inside w 0) xs (inside (w - suc n) v)) (sym (bits-snoc n (v / 2) (v % 2) (omega arith)) ∙ ap (bits (suc n)) d)
+      (then (reads-part n (v / 2) (half-lt n h) (omega arith)) one)
 
-reads-field : {A : Type 0} (w : ℕ) (k : ℕ → Layout A) (v : ℕ) → 0 < w → v < 2 ^ w → takes (enter (part w k)) (bits w v) ≡ enter (k v)
+reads-field : {A : Type 0} (w : ℕ) (k : ℕ → Layout A) (v : ℕ) → 0 < w → v < 2 ^ w → Reads (enter (part w k)) (bits w v) (enter (k v))
 reads-field zero k v z h = absurd (omega arith)
 reads-field (suc n) k v z h =
+    let e : suc n - n ≤ 1 = omega arith in
     let d : v / 2 * 2 + v % 2 ≡ v = omega arith in
-    ap (λ (x : ℕ). takes (enter (part (suc n) k)) (bits (suc n) x)) (sym d)
-    ∙ ap (takes (enter (part (suc n) k))) (bits-snoc n (v / 2) (v % 2) (omega arith))
-    ∙ takes-append (enter (part (suc n) k)) (bits n (v / 2)) (v % 2 ∷ [])
-    ∙ ap (λ (r : Walker _). took r (v % 2)) (reads-part (suc n) k n (v / 2) (half-lt n h) (omega arith))
-    ∙ took-last (suc n) k (suc n - n) (v / 2) (v % 2) (omega arith)
-    ∙ ap (λ (x : ℕ). enter (k x)) d
+    let one : Reads (inside (suc n) k (suc n - n) (v / 2)) (v % 2 ∷ []) (enter (k v)) = record { ends = rw (le-ltb 1 (suc n - n) e, d); alive = (tt, tt) } in
+    subst (λ (xs : List ℕ). Reads (enter (part (suc n) k)) xs (enter (k v))) (sym (bits-snoc n (v / 2) (v % 2) (omega arith)) ∙ ap (bits (suc n)) d)
+    (then (reads-part (suc n) k n (v / 2) (half-lt n h) (omega arith)) one)
 
-pub reads-way : {A : Type 0} (l : Layout A) (y : Way l) → takes (enter l) (raw (along l y)) ≡ enter (done (end l y))
-reads-way (done a) y = refl
-reads-way (part w k) y =
-    takes-append (enter (part w k)) (bits w (y .0)) (raw (along (k (y .0)) (y .3)))
-    ∙ ap (λ (r : Walker _). takes r (raw (along (k (y .0)) (y .3)))) (reads-field w k (y .0) (y .1) (y .2))
-    ∙ reads-way (k (y .0)) (y .3)
+pub reads-way : {A : Type 0} (l : Layout A) (y : Way l) → Reads (enter l) (raw (along l y)) (enter (done (end l y)))
+reads-way (done a) y = record { ends = refl; alive = tt }
+reads-way (part w k) y = then (reads-field w k (y .0) (y .1) (y .2)) (reads-way (k (y .0)) (y .3))
 
 -- WHERE A READER STANDS
 
@@ -113,7 +123,8 @@ module _ {A : Type 0} (l : Layout A) where
   stood-new z = stood-enter l [] [] new z refl
 
   -- a bit taken is appended
-  pub stood-took : (w : ℕ) (k : ℕ → Layout A) (left v b : ℕ) (xs : List ℕ) → Stood l (inside w k left v) xs → b < 2 → Stood l (took (inside w k left v) b) (xs ++ (b ∷ []))
+  pub stood-took : (w : ℕ) (k : ℕ → Layout A) (left v b : ℕ) (xs : List ℕ) → Stood l (inside w k left v) xs → b < 2
+      → Stood l (took (inside w k left v) b) (xs ++ (b ∷ []))
   stood-took w k left v b xs s h = go (ltb 1 left) refl
     where
       z : 0 < left
@@ -157,7 +168,8 @@ module _ {A : Type 0} (l : Layout A) where
       (m .0, m .1, m .2 ∙ sym (append-assoc rs (field w v ∷ []) (along (k v) z)))
 
   -- a reader at an end has taken the bits of a way to it
-  pub stood-end : (a : A) (left v : ℕ) (xs : List ℕ) → Stood l (record { rest = done a; left = left; value = v }) xs → (y : Way l) × (end l y ≡ a) × (xs ≡ raw (along l y))
+  pub stood-end : (a : A) (left v : ℕ) (xs : List ℕ) → Stood l (record { rest = done a; left = left; value = v }) xs
+      → (y : Way l) × (end l y ≡ a) × (xs ≡ raw (along l y))
   stood-end a left v xs s =
       let m = on-way (done a) (s .past) (s .on) tt in
       let n : 0 - left ≡ 0 = omega arith in

@@ -7,6 +7,7 @@ pub mod Stuffing
 pub mod Unstuffing
 pub mod StuffingLaws
 pub mod Fields
+pub mod FieldsLaws
 pub mod Image
 pub mod Legal
 pub mod Layout
@@ -15,3 +16,4 @@ pub mod FramesLaws
 pub mod ImageLaws
 pub mod Samples
 pub mod SamplesLaws
+pub mod Pinning

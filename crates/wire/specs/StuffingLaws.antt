@@ -1,16 +1,16 @@
 -- Laws of stuffing: it goes part by part, unstuffing undoes it, and what unstuffs unbroken was stuffed.
 use Prim.Native.Nat.{ℕ, _+_, _-_, _*_, _<_, _≤_}
-use mathlib.Core.Path.{_≡_, refl, sym, ap, ap₂, _∙_}
-use mathlib.Core.Bool.{Bool, true, false, cond, _&&_}
+use mathlib.Core.Path.{_≡_, refl, sym, ap, _∙_}
+use mathlib.Core.Bool.{Bool, true, false, cond}
 use mathlib.Core.List.{List, [], _∷_, _++_, append-nil, append-assoc}
 use native.Mathlib.Omega.{arith}
-use lib.Dec.{eqb, ltb, lit<}
+use lib.Dec.{eqb, ltb}
 use lib.ListN.{length, length-append}
 use borrow.Author.Tests.{eqb-true, eqb-false, eq-eqb, ne-eqb, ltb-false}
 use Rattle.wire.specs.declared.runs.Run.{Run}
 use Rattle.wire.specs.Numbers.{five}
-use Rattle.wire.specs.BitsLaws.{AllBits}
-use Rattle.wire.specs.Stuffing.{none, ran, ranFrom, Coding, dynamic, plain, Coded, Sample, frame, stuff, wire, opposite, due, sends, codeFrom, all, stuffFrom}
+use Rattle.wire.specs.BitsLaws.{AllBits, all-bits-append}
+use Rattle.wire.specs.Stuffing.{ran, ranFrom, Coding, dynamic, plain, Coded, Sample, frame, stuff, wire, opposite, due, sends, codeFrom, all, stuffFrom}
 use Rattle.wire.specs.Unstuffing.{unstuffFrom, Unbroken}
 
 -- PART BY PART
@@ -68,31 +68,34 @@ unbroken-append u (x ∷ xs) ys p q = (p .0, unbroken-append (ran u x) xs ys (p 
 
 -- UNSTUFFING UNDOES STUFFING
 
-abbrev dyn : ℕ → Coded
+abbrev pub dyn : ℕ → Coded
 dyn b = record { how = dynamic; bit = b }
 
 -- the run behind one bit and what was due before it
 abbrev pub past : Run → ℕ → Run
 past u b = ranFrom u (wire (sends u (dyn b)))
 
-opposite-differs : (n : ℕ) → eqb (opposite n) n ≡ false
+pub opposite-differs : (n : ℕ) → eqb (opposite n) n ≡ false
 opposite-differs n = ne-eqb (opposite n) n (omega arith)
 
-unstuff-sends : (u : Run) (b : ℕ) (ss : List ℕ) → unstuffFrom u (wire (sends u (dyn b)) ++ ss) ≡ b ∷ unstuffFrom (past u b) ss
+pub unstuff-sends : (u : Run) (b : ℕ) (ss : List ℕ) → unstuffFrom u (wire (sends u (dyn b)) ++ ss) ≡ b ∷ unstuffFrom (past u b) ss
 unstuff-sends u b ss = go (eqb (u .len) five) refl
   where
-    go : (t : Bool) → eqb (u .len) five ≡ t → unstuffFrom u (wire (cond t (record { why = stuff; bit = opposite (u .last) } ∷ []) [] ++ (record { why = frame; bit = b } ∷ [])) ++ ss) ≡ b ∷ unstuffFrom (ranFrom u (wire (cond t (record { why = stuff; bit = opposite (u .last) } ∷ []) [] ++ (record { why = frame; bit = b } ∷ [])))) ss
+    go : (t : Bool) → eqb (u .len) five ≡ t
+        → unstuffFrom u (wire (cond t (record { why = stuff; bit = opposite (u .last) } ∷ []) [] ++ (record { why = frame; bit = b } ∷ [])) ++ ss) ≡ b ∷ unstuffFrom (ranFrom u (wire (cond t (record { why = stuff; bit = opposite (u .last) } ∷ []) [] ++ (record { why = frame; bit = b } ∷ [])))) ss
     go true e = rw (e, opposite-differs (u .last))
     go false e = rw e
 
 unbroken-sends : (u : Run) (b : ℕ) (ss : List ℕ) → Unbroken (past u b) ss → Unbroken u (wire (sends u (dyn b)) ++ ss)
 unbroken-sends u b ss = go (eqb (u .len) five) refl
   where
-    go : (t : Bool) → eqb (u .len) five ≡ t → Unbroken (ranFrom u (wire (cond t (record { why = stuff; bit = opposite (u .last) } ∷ []) [] ++ (record { why = frame; bit = b } ∷ [])))) ss → Unbroken u (wire (cond t (record { why = stuff; bit = opposite (u .last) } ∷ []) [] ++ (record { why = frame; bit = b } ∷ [])) ++ ss)
+    go : (t : Bool) → eqb (u .len) five ≡ t
+        → Unbroken (ranFrom u (wire (cond t (record { why = stuff; bit = opposite (u .last) } ∷ []) [] ++ (record { why = frame; bit = b } ∷ [])))) ss
+        → Unbroken u (wire (cond t (record { why = stuff; bit = opposite (u .last) } ∷ []) [] ++ (record { why = frame; bit = b } ∷ [])) ++ ss)
     go true e h = (rw (e, opposite-differs (u .last)), (rw (opposite-differs (u .last)), h))
     go false e h = (rw e, h)
 
-stuff-cons : (u : Run) (b : ℕ) (bs : List ℕ) → stuffFrom u (b ∷ bs) ≡ wire (sends u (dyn b)) ++ stuffFrom (past u b) bs
+pub stuff-cons : (u : Run) (b : ℕ) (bs : List ℕ) → stuffFrom u (b ∷ bs) ≡ wire (sends u (dyn b)) ++ stuffFrom (past u b) bs
 stuff-cons u b bs = wire-append (sends u (dyn b)) (codeFrom (past u b) (all dynamic bs))
 
 pub unstuff-stuff : (u : Run) (bs : List ℕ) → unstuffFrom u (stuffFrom u bs) ≡ bs
@@ -105,6 +108,20 @@ unstuff-stuff u (b ∷ bs) =
 pub unbroken-stuff : (u : Run) (bs : List ℕ) → Unbroken u (stuffFrom u bs)
 unbroken-stuff u [] = tt
 unbroken-stuff u (b ∷ bs) = rw (stuff-cons u b bs) (unbroken-sends u b (stuffFrom (past u b) bs) (unbroken-stuff (past u b) bs))
+
+-- bits are sent as bits
+sends-bits : (u : Run) (b : ℕ) → b < 2 → AllBits (wire (sends u (dyn b)))
+sends-bits u b h = go (eqb (u .len) five)
+  where
+    go : (t : Bool)
+        → AllBits (wire (cond t (record { why = stuff; bit = opposite (u .last) } ∷ []) [] ++ (record { why = frame; bit = b } ∷ [])))
+    go true = (omega arith, (h, tt))
+    go false = (h, tt)
+
+pub stuff-bits : (u : Run) (bs : List ℕ) → AllBits bs → AllBits (stuffFrom u bs)
+stuff-bits u [] h = tt
+stuff-bits u (b ∷ bs) h =
+    rw (stuff-cons u b bs) (all-bits-append (wire (sends u (dyn b))) (stuffFrom (past u b) bs) (sends-bits u b (h .0)) (stuff-bits (past u b) bs (h .1)))
 
 -- AND THE OTHER WAY ROUND
 
@@ -134,13 +151,15 @@ whole-due u b (x ∷ bs) e d =
     ∙ rw (d, eq-eqb (u .len) five e)
     (ap (λ (l : List ℕ). opposite (u .last) ∷ l) (sym (whole-cons (ran u (opposite (u .last))) x bs ∙ rw (opposite-differs (u .last)))))
 
-pub stuff-unstuff : (u : Run) (ss : List ℕ) → Sampled u → AllBits ss → Unbroken u ss → whole u (unstuffFrom u ss) ≡ ss ++ dueBits (ranFrom u ss)
+pub stuff-unstuff : (u : Run) (ss : List ℕ) → Sampled u → AllBits ss → Unbroken u ss
+    → whole u (unstuffFrom u ss) ≡ ss ++ dueBits (ranFrom u ss)
 stuff-unstuff u [] h a k = refl
 stuff-unstuff u (b ∷ ss) h a k =
     go (eqb (u .len) five) refl
     (stuff-unstuff (ran u b) ss (λ (_ : ran u b .len ≡ five). a .0) (a .1) (k .1))
   where
-    go : (t : Bool) → eqb (u .len) five ≡ t → whole (ran u b) (unstuffFrom (ran u b) ss) ≡ ss ++ dueBits (ranFrom (ran u b) ss) → whole u (cond t (unstuffFrom (ran u b) ss) (b ∷ unstuffFrom (ran u b) ss)) ≡ b ∷ (ss ++ dueBits (ranFrom (ran u b) ss))
+    go : (t : Bool) → eqb (u .len) five ≡ t → whole (ran u b) (unstuffFrom (ran u b) ss) ≡ ss ++ dueBits (ranFrom (ran u b) ss)
+        → whole u (cond t (unstuffFrom (ran u b) ss) (b ∷ unstuffFrom (ran u b) ss)) ≡ b ∷ (ss ++ dueBits (ranFrom (ran u b) ss))
     go true e q =
         let five-equal : u .len ≡ five = eqb-true (u .len) five e in
         let differs : eqb b (u .last) ≡ false = rw e at (k .0) in
@@ -149,7 +168,8 @@ stuff-unstuff u (b ∷ ss) h a k =
     go false e q = whole-cons u b (unstuffFrom (ran u b) ss) ∙ rw e (ap (λ (l : List ℕ). b ∷ l) q)
 
 -- where nothing is due before the last sample, all of them are what the bits among them are sent as
-pub stuff-unstuff-bit : (u : Run) (ss : List ℕ) (b : ℕ) → Sampled u → AllBits ss → Unbroken u ss → eqb (ranFrom u ss .len) five ≡ false → stuffFrom u (unstuffFrom u (ss ++ (b ∷ []))) ≡ ss ++ (b ∷ [])
+pub stuff-unstuff-bit : (u : Run) (ss : List ℕ) (b : ℕ) → Sampled u → AllBits ss → Unbroken u ss → eqb (ranFrom u ss .len) five ≡ false
+    → stuffFrom u (unstuffFrom u (ss ++ (b ∷ []))) ≡ ss ++ (b ∷ [])
 stuff-unstuff-bit u ss b h a k e =
     let bs : List ℕ = unstuffFrom u ss in
     let v : Run = ranFrom u (stuffFrom u bs) in
@@ -168,7 +188,8 @@ stuff-unstuff-bit u ss b h a k e =
 len-ran : (u : Run) (b : ℕ) → (0 < ran u b .len) × (ran u b .len ≤ u .len + 1)
 len-ran u b = go (eqb b (u .last)) (ltb (u .len) five) refl
   where
-    go : (s t : Bool) → ltb (u .len) five ≡ t → (0 < cond s (cond t (u .len + 1) five) 1) × (cond s (cond t (u .len + 1) five) 1 ≤ u .len + 1)
+    go : (s t : Bool) → ltb (u .len) five ≡ t
+        → (0 < cond s (cond t (u .len + 1) five) 1) × (cond s (cond t (u .len + 1) five) 1 ≤ u .len + 1)
     go true true e = (omega arith, omega arith)
     go true false e = (omega arith, omega (arith, ltb-false (u .len) five e))
     go false t e = (omega arith, omega arith)
@@ -176,7 +197,8 @@ len-ran u b = go (eqb b (u .last)) (ltb (u .len) five) refl
 sends-length : (u : Run) (b : ℕ) → 0 < u .len → (0 < past u b .len) × (4 * length (wire (sends u (dyn b))) + past u b .len ≤ 5 + u .len)
 sends-length u b h = go (eqb (u .len) five) refl
   where
-    go : (t : Bool) → eqb (u .len) five ≡ t → (0 < ranFrom u (wire (cond t (record { why = stuff; bit = opposite (u .last) } ∷ []) [] ++ (record { why = frame; bit = b } ∷ []))) .len) × (4 * length (wire (cond t (record { why = stuff; bit = opposite (u .last) } ∷ []) [] ++ (record { why = frame; bit = b } ∷ []))) + ranFrom u (wire (cond t (record { why = stuff; bit = opposite (u .last) } ∷ []) [] ++ (record { why = frame; bit = b } ∷ []))) .len ≤ 5 + u .len)
+    go : (t : Bool) → eqb (u .len) five ≡ t
+        → (0 < ranFrom u (wire (cond t (record { why = stuff; bit = opposite (u .last) } ∷ []) [] ++ (record { why = frame; bit = b } ∷ []))) .len) × (4 * length (wire (cond t (record { why = stuff; bit = opposite (u .last) } ∷ []) [] ++ (record { why = frame; bit = b } ∷ []))) + ranFrom u (wire (cond t (record { why = stuff; bit = opposite (u .last) } ∷ []) [] ++ (record { why = frame; bit = b } ∷ []))) .len ≤ 5 + u .len)
     go true e =
         let k = len-ran (ran u (opposite (u .last))) b in
         let one : ran u (opposite (u .last)) .len ≡ 1 = rw (opposite-differs (u .last)) in

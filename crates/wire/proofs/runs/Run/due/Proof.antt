@@ -1,10 +1,8 @@
+-- Each branch is a test of the definition.
 use Rattle.wire.proofs.Tests.{tests}
 use borrow.Author.Needs.{needs}
 use Rattle.wire.proofs.runs.Run.due.Statement.{statement}
 use Rattle.wire.proofs.runs.Run.due.Tie as tie
-use Rattle.wire.proofs.runs.Run.due.Reads as reads
-use Rattle.wire.proofs.runs.Run.due.Lts as lts
-use Rattle.wire.proofs.runs.opposite.Reads as opposite-reads
 
 opposite-requires : tie.Need-opposite-requires
 opposite-requires c κs = search needs

@@ -1,8 +1,7 @@
+-- Each branch is a test of the definition.
 use Rattle.wire.proofs.Tests.{tests}
 use Rattle.wire.proofs.runs.Run.hear.Statement.{statement}
 use Rattle.wire.proofs.runs.Run.hear.Tie as tie
-use Rattle.wire.proofs.runs.Run.hear.Reads as reads
-use Rattle.wire.proofs.runs.Run.hear.Lts as lts
 
 returns : tie.Need-returns
 returns c = search tests

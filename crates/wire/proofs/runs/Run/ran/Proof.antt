@@ -1,9 +1,8 @@
+-- Each branch is a test of the definition.
 use Rattle.wire.proofs.Tests.{tests}
 use borrow.Author.Needs.{needs}
 use Rattle.wire.proofs.runs.Run.ran.Statement.{statement}
 use Rattle.wire.proofs.runs.Run.ran.Tie as tie
-use Rattle.wire.proofs.runs.Run.ran.Reads as reads
-use Rattle.wire.proofs.runs.Run.ran.Lts as lts
 
 add-t7 : tie.Need-add-t7
 add-t7 c = search needs
