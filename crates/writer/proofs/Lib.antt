@@ -1,0 +1,4 @@
+pub mod Loops
+pub mod Drawing
+pub mod Answers
+pub mod Pinned

@@ -1,0 +1,12 @@
+pub mod Refusals
+pub mod RefusalsLaws
+pub mod Writer
+pub mod WriterLaws
+pub mod Exactly
+pub mod PastCount
+pub mod Pages
+pub mod PagesLaws
+pub mod PackedLaws
+pub mod ImageLaws
+pub mod LengthLaws
+pub mod Edges
