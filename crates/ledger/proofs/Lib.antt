@@ -1,0 +1,3 @@
+pub mod Tests
+pub mod Counted
+pub mod Pinned

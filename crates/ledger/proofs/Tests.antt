@@ -1,0 +1,19 @@
+-- A test that the code made decides the `cond` of a definition: `tests`, for `search`. Tests on numbers are the kit's; `taken` and `left`
+-- are for a test t that was called, whose contract says that it is the definition's b.
+use mathlib.Core.Path.{_≡_, sym, _∙_}
+use mathlib.Core.Bool.{Bool, true, false, cond, false≢true}
+use borrow.Author.Needs.{needs}
+use borrow.Author.Tests.{eq-eqb, ne-eqb, lt-ltb, le-ltb, le-leb, lt-leb}
+
+pub holds : (b t : Bool) → t ≡ b → t ≡ true → b ≡ true
+holds b t is h = sym is ∙ h
+
+pub taken : {A : Type 0} (b t : Bool) (x y z : A) → t ≡ b → t ≡ true → z ≡ x → z ≡ cond b x y
+taken true t x y z is h r = r
+taken false t x y z is h r = absurd (false≢true (holds false t is h))
+
+pub left : {A : Type 0} (b t : Bool) (x y z : A) → t ≡ b → t ≡ false → z ≡ y → z ≡ cond b x y
+left true t x y z is h r = absurd (false≢true (sym h ∙ is))
+left false t x y z is h r = r
+
+pub ruleset tests = (needs, eq-eqb, ne-eqb, lt-ltb, le-ltb, le-leb, lt-leb, holds, taken, left)

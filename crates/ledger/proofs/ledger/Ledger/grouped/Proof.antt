@@ -1,0 +1,15 @@
+-- A group when bus-off: one more, or at the 128th a new ledger.
+use native.Mathlib.Omega.{arith}
+use borrow.Author.Needs.{needs}
+use borrow.Author.Tests.{lt-ltb, le-ltb}
+use Rattle.ledger.proofs.ledger.Ledger.grouped.Statement.{statement}
+use Rattle.ledger.proofs.ledger.Ledger.grouped.Tie as tie
+
+returns : tie.Need-returns
+returns c = simp (lt-ltb (c .before .args .self .groups) 127 (omega arith))
+
+returns-2 : tie.Need-returns-2
+returns-2 c = simp (le-ltb (c .before .before .args .self .groups) 127 (omega arith)) (c .new .ensures)
+
+pub grouped-spec : {M : Type 1} → statement M
+grouped-spec = tie.close (tie.spec (search needs) returns (search needs) returns-2)

@@ -1,0 +1,20 @@
+-- One call: refused exactly out of range, and else by the rules.
+use borrow.Author.Needs.{needs}
+use Rattle.ledger.specs.Answer.{after}
+use Rattle.ledger.proofs.Tests.{tests}
+use Rattle.ledger.proofs.ledger.Ledger.step.Statement.{statement}
+use Rattle.ledger.proofs.ledger.Ledger.step.Tie as tie
+
+next-requires : tie.Need-next-requires
+next-requires c κs = search tests
+
+returns : tie.Need-returns
+unfolding after
+returns c = rw (c .next .ensures) (search tests)
+
+returns-2 : tie.Need-returns-2
+unfolding after
+returns-2 c = search tests
+
+pub step-spec : {M : Type 1} → statement M
+step-spec = tie.close (tie.spec (search needs) next-requires returns returns-2)

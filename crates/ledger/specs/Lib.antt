@@ -1,0 +1,7 @@
+pub mod Cases
+pub mod Rules
+pub mod RulesLaws
+pub mod Answer
+pub mod AnswerLaws
+pub mod History
+pub mod HistoryLaws

@@ -1,0 +1,104 @@
+-- The fault ledger's rules: 01, "The fault ledger" (001 section 8.1.4; 002 section 8). What an event makes of a ledger, and the
+-- state that a ledger stands for.
+use Prim.Native.Nat.{ℕ, _+_, _-_, min}
+use mathlib.Core.Bool.{Bool, true, false, cond, _||_}
+use lib.Dec.{ltb}
+use Rattle.ledger.specs.declared.ledger.Ledger.{Ledger}
+use Rattle.ledger.specs.declared.state.State.{State}
+use Rattle.ledger.specs.declared.state.State.the-variants.{Active, Passive, BusOff}
+use Rattle.ledger.specs.declared.event.Event.{Event}
+use Rattle.ledger.specs.declared.event.Event.the-variants.{ErrorSeen, DominantAfterFlag, FlagErrorAsTransmitter, FlagErrorAsReceiver, ErrorFlagSent, AcknowledgeError, StuffBitOverwritten, SentWell, ReceivedWell, ElevenRecessive}
+
+-- T, the transmit count, and R, the receive count
+pub record Counts : Type 0 where
+  pub T : ℕ
+  pub R : ℕ
+
+abbrev pub counts : ℕ → ℕ → Counts
+counts t r = record { T = t; R = r }
+
+-- R is held at 255 (house choice)
+abbrev pub held : ℕ → ℕ
+held r = min r 255
+
+-- T or R above 127: passive, where the station is not bus-off
+abbrev pub isPassive : ℕ → ℕ → Bool
+isPassive t r = ltb 127 t || ltb 127 r
+
+-- T after an acknowledge error
+abbrev pub unacknowledged : ℕ → ℕ → ℕ
+unacknowledged t r = cond (isPassive t r) t (t + 8)
+
+-- R after a good reception; 127 is a house choice inside the standard's 119 to 127
+abbrev pub received : ℕ → ℕ
+received r = cond (ltb 127 r) 127 (r - 1)
+
+-- 01's list: what each event makes of T and R where the station is not bus-off (numbers from 0 up, so 0 - 1 is 0)
+unfoldable pub change : Event → ℕ → ℕ → Counts
+-- error seen as receiver: R + 1
+change ErrorSeen t r = counts t (held (r + 1))
+-- dominant first bit after own error flag, as receiver: R + 8
+change DominantAfterFlag t r = counts t (held (r + 8))
+-- bit error in own active error or overload flag, or each further run of too many dominant bits after a flag: T + 8 as transmitter,
+change FlagErrorAsTransmitter t r = counts (t + 8) r
+-- R + 8 as receiver
+change FlagErrorAsReceiver t r = counts t (held (r + 8))
+-- error flag sent as transmitter: T + 8
+change ErrorFlagSent t r = counts (t + 8) r
+-- acknowledge error with no dominant bit seen in the own flag: T unchanged if the station was passive before, else T + 8
+change AcknowledgeError t r = counts (unacknowledged t r) r
+-- recessive stuff bit overwritten during arbitration: T unchanged
+change StuffBitOverwritten t r = counts t r
+-- frame sent well: T - 1, or 0 if it was 0
+change SentWell t r = counts (t - 1) r
+-- frame received well: R - 1 for 1 to 127; 0 stays; above 127 becomes 127
+change ReceivedWell t r = counts t (received r)
+-- eleven recessive bits seen: counts only when bus-off
+change ElevenRecessive t r = counts t r
+
+-- the ledger that holds T, R and the groups
+abbrev pub ledger : ℕ → ℕ → ℕ → Ledger
+ledger t r g = record { transmit = record { 0 = t }; receive = record { 0 = r }; groups = g }
+
+-- both counts start at 0
+abbrev pub new : Ledger
+new = ledger 0 0 0
+
+-- bus-off: T above 255
+abbrev pub isOff : Ledger → Bool
+isOff l = ltb 255 (l .transmit .0)
+
+-- eleven recessive bits seen
+abbrev pub isGroup : Event → Bool
+isGroup ErrorSeen = false
+isGroup DominantAfterFlag = false
+isGroup FlagErrorAsTransmitter = false
+isGroup FlagErrorAsReceiver = false
+isGroup ErrorFlagSent = false
+isGroup AcknowledgeError = false
+isGroup StuffBitOverwritten = false
+isGroup SentWell = false
+isGroup ReceivedWell = false
+isGroup ElevenRecessive = true
+
+-- a recessive group when bus-off: the 128th sets T, R and the groups to 0
+abbrev pub grouped : Ledger → Ledger
+grouped l = cond (ltb (l .groups) 127) (ledger (l .transmit .0) (l .receive .0) (l .groups + 1)) new
+
+-- when bus-off only recessive groups count and every other event changes nothing
+unfoldable pub waiting : Event → Ledger → Ledger
+waiting e l = cond (isGroup e) (grouped l) l
+
+-- an event when not bus-off
+abbrev pub counting : Event → Ledger → Ledger
+counting e l =
+    let c = change e (l .transmit .0) (l .receive .0) in
+    ledger (c .T) (c .R) (l .groups)
+
+-- THE RULES: an event and a ledger to the next ledger
+unfoldable pub next : Event → Ledger → Ledger
+next e l = cond (isOff l) (waiting e l) (counting e l)
+
+-- bus-off; else passive where T or R is above 127; else active
+abbrev pub stateOf : Ledger → State
+stateOf l = cond (isOff l) BusOff (cond (isPassive (l .transmit .0) (l .receive .0)) Passive Active)

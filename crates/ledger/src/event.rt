@@ -1,0 +1,46 @@
+// What can happen to a station, in document 01's order.
+ghost use mathlib.Core.Path.{_≡_};
+ghost use Rattle.ledger.specs.Rules.{isGroup};
+
+pub enum Event {
+    // An error seen as receiver.
+    ErrorSeen,
+    // A dominant first bit after the own error flag, as receiver.
+    DominantAfterFlag,
+    // A bit error in the own active error or overload flag, or a further run of too many dominant bits after a flag, as transmitter.
+    FlagErrorAsTransmitter,
+    // The same as receiver.
+    FlagErrorAsReceiver,
+    // An error flag sent as transmitter.
+    ErrorFlagSent,
+    // An acknowledge error with no dominant bit seen in the own flag.
+    AcknowledgeError,
+    // A recessive stuff bit overwritten during arbitration.
+    StuffBitOverwritten,
+    // A frame sent well.
+    SentWell,
+    // A frame received well.
+    ReceivedWell,
+    // Eleven recessive bits seen.
+    ElevenRecessive,
+}
+
+impl Event {
+    // Whether it is a recessive group.
+    pub(crate) fn is_group(self) -> bool
+        ensures { λ r. ⌜ r ≡ isGroup self ⌝ }
+    {
+        match self {
+            Event::ErrorSeen => false,
+            Event::DominantAfterFlag => false,
+            Event::FlagErrorAsTransmitter => false,
+            Event::FlagErrorAsReceiver => false,
+            Event::ErrorFlagSent => false,
+            Event::AcknowledgeError => false,
+            Event::StuffBitOverwritten => false,
+            Event::SentWell => false,
+            Event::ReceivedWell => false,
+            Event::ElevenRecessive => true,
+        }
+    }
+}

@@ -1,0 +1,66 @@
+// A station's ledger: what it holds, what a call hands back, and the state that it stands for.
+ghost use mathlib.Core.Path.{_≡_};
+ghost use Rattle.ledger.specs.Rules.{new, stateOf, isOff};
+ghost use Rattle.ledger.specs.Answer.{inRange};
+use crate::count::ReceiveCount;
+use crate::count::TransmitCount;
+use crate::count::is_passive;
+use crate::state::State;
+
+// Both counts, and the groups of eleven recessive bits seen since it went bus-off. Ranges: docs/RANGES.md.
+pub struct Ledger {
+    pub transmit: TransmitCount,
+    pub receive: ReceiveCount,
+    pub groups: u8,
+}
+
+// What a call answers: 0 and the next ledger, or refusal 7 and the ledger that it was given.
+pub struct Ledgered {
+    pub refusal: u8,
+    pub ledger: Ledger,
+}
+
+impl Ledger {
+    // A new ledger: both counts are 0.
+    pub fn new() -> Ledger
+        ensures { λ r. ⌜ r ≡ new ⌝ }
+    {
+        Ledger {
+            transmit: TransmitCount(0),
+            receive: ReceiveCount(0),
+            groups: 0,
+        }
+    }
+
+    // Active, passive or bus-off, by the counts alone: so also for a record out of range.
+    pub fn state(self) -> State
+        ensures { λ r. ⌜ r ≡ stateOf self ⌝ }
+    {
+        if self.is_off() {
+            return State::BusOff;
+        }
+        let t = self.transmit;
+        let r = self.receive;
+        if is_passive(t, r) {
+            return State::Passive;
+        }
+        State::Active
+    }
+
+    // T above 255.
+    pub(crate) fn is_off(self) -> bool
+        ensures { λ r. ⌜ r ≡ isOff self ⌝ }
+    {
+        255 < self.transmit.0
+    }
+
+    // Whether each number of the record lies in its range.
+    pub(crate) fn in_range(self) -> bool
+        ensures { λ r. ⌜ r ≡ inRange self ⌝ }
+    {
+        let t = self.transmit.0;
+        let r = self.receive.0;
+        let g = self.groups;
+        (t <= 263) & (r <= 255) & (g <= 127) & ((255 < t) | (g == 0))
+    }
+}

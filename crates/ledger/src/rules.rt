@@ -1,0 +1,89 @@
+// The rules: the next ledger at each event, for a record in its ranges.
+ghost use mathlib.Core.Path.{_≡_};
+ghost use mathlib.Core.Bool.{true};
+ghost use Prim.Native.Nat.{_≤_};
+ghost use Rattle.ledger.specs.Rules.{grouped, waiting, counting, next};
+ghost use Rattle.ledger.specs.Answer.{inRange};
+use crate::event::Event;
+use crate::ledger::Ledger;
+
+impl Ledger {
+    // A recessive group when bus-off: the 128th brings the station back.
+    fn grouped(mut self) -> Ledger
+        ensures { λ r. ⌜ r ≡ grouped self ⌝ }
+    {
+        let g = self.groups;
+        if g < 127 {
+            self.groups = g + 1;
+            return self;
+        }
+        Ledger::new()
+    }
+
+    // Any event when bus-off.
+    fn waiting(self, e: Event) -> Ledger
+        ensures { λ r. ⌜ r ≡ waiting e self ⌝ }
+    {
+        if e.is_group() {
+            return self.grouped();
+        }
+        self
+    }
+
+    // Any event when not bus-off.
+    fn counting(mut self, e: Event) -> Ledger
+        requires { ⌜ self .transmit .0 ≤ 255 ⌝ }
+        requires { ⌜ self .receive .0 ≤ 255 ⌝ }
+        ensures { λ r. ⌜ r ≡ counting e self ⌝ }
+    {
+        let t = self.transmit;
+        let r = self.receive;
+        match e {
+            Event::ErrorSeen => {
+                self.receive = r.raised(1);
+                self
+            }
+            Event::DominantAfterFlag => {
+                self.receive = r.raised(8);
+                self
+            }
+            Event::FlagErrorAsTransmitter => {
+                self.transmit = t.raised();
+                self
+            }
+            Event::FlagErrorAsReceiver => {
+                self.receive = r.raised(8);
+                self
+            }
+            Event::ErrorFlagSent => {
+                self.transmit = t.raised();
+                self
+            }
+            Event::AcknowledgeError => {
+                self.transmit = t.unacknowledged(r);
+                self
+            }
+            Event::StuffBitOverwritten => self,
+            Event::SentWell => {
+                self.transmit = t.lowered();
+                self
+            }
+            Event::ReceivedWell => {
+                self.receive = r.lowered();
+                self
+            }
+            Event::ElevenRecessive => self,
+        }
+    }
+
+    // The rules, for a record in range.
+    pub(crate) fn next(self, e: Event) -> Ledger
+        requires { ⌜ inRange self ≡ true ⌝ }
+        ensures { λ r. ⌜ r ≡ next e self ⌝ }
+    {
+        if self.is_off() {
+            return self.waiting(e);
+        }
+        self.counting(e)
+    }
+}
