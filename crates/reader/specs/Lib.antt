@@ -1,0 +1,3 @@
+pub mod Reader
+pub mod Ranges
+pub mod RangesLaws
