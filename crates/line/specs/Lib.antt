@@ -1,0 +1,4 @@
+pub mod Moves
+pub mod Core
+pub mod Ranges
+pub mod RangesLaws
