@@ -1,0 +1,2 @@
+pub mod Listener
+pub mod ListenerLaws
