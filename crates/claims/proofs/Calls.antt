@@ -1,0 +1,122 @@
+-- The table's laws brought to the calls: what holds of the table holds of every record reached from a new one.
+use Prim.Native.Nat.{ℕ, zero, suc, _<_}
+use mathlib.Core.Path.{_≡_, refl, sym, ap, subst, _∙_}
+use mathlib.Core.Bool.{true}
+use mathlib.Core.List.{List, [], _∷_, _++_}
+use native.Mathlib.Omega.{arith}
+use lib.Dec.{ltb, lit<}
+use lib.ListN.{take}
+use borrow.Author.Tests.{ltb-true}
+use Rattle.wire.specs.declared.frames.Received.{Received}
+use Rattle.wire.specs.BitsLaws.{AllBits, all-bits-append}
+use Rattle.wire.specs.ImageLaws.{image-bits}
+use Rattle.wire.specs.Image.{image}
+use Rattle.wire.specs.Legal.{Legal}
+use Rattle.line.specs.declared.places.Place.{Place}
+use Rattle.line.specs.declared.places.Place.the-variants.{Ready}
+use Rattle.line.specs.declared.inframe.InFrame.{InFrame}
+use Rattle.listener.specs.declared.listeners.Listener.{Listener}
+use Rattle.listener.specs.Listener.{newListener, fits, heard}
+use Rattle.claims.specs.Answers.{Said, handed, refused, said}
+use Rattle.claims.specs.Table.{Where, waiting, ready, intermission, whereFrom, saysFrom}
+use Rattle.claims.specs.Lines.{recessive, enough, Piece, lineOf, Line, reply, repliesTo, CameFrom}
+use Rattle.claims.specs.Histories.{Listening, answersTo, reached, acceptedOf, tableAnswers}
+use Rattle.claims.proofs.Cases.{either}
+use Rattle.claims.proofs.AsTable.{At, waits, readies, stuffs, delimits, slots, acks, ends, rests}
+use Rattle.claims.proofs.Trace.{where-append}
+use Rattle.claims.proofs.Complete.{Idle, is-ready, is-third, hears-image}
+use Rattle.claims.proofs.Lines.{hears-line}
+use Rattle.claims.proofs.Seventeen.{seventeen}
+use Rattle.claims.proofs.Caution.{caution}
+use Rattle.claims.proofs.Reached.{good-new, good-reached, says-row, heard-refused, calls-say, accepted-append, accepted-bits, answers-bits}
+
+-- PLACES OF THE TABLE AND OF THE RECORD
+
+place-ready : {p : Where} {c : Place} {f : InFrame} {bytes : List ℕ} → At p c f bytes → p ≡ ready → c ≡ Ready
+place-ready waits e = cc
+place-ready readies e = refl
+place-ready (stuffs i q) e = cc
+place-ready (delimits u c) e = cc
+place-ready (slots c) e = cc
+place-ready (acks c) e = cc
+place-ready (ends c) e = cc
+place-ready rests e = cc
+
+-- where a dominant bit is a start of frame
+idle-at : {p : Where} {c : Place} {f : InFrame} {bytes : List ℕ} → At p c f bytes → Listening c → Idle p
+idle-at waits l = absurd l
+idle-at readies l = is-ready
+idle-at (stuffs i q) l = absurd l
+idle-at (delimits u c) l = absurd l
+idle-at (slots c) l = absurd l
+idle-at (acks c) l = absurd l
+idle-at (ends c) l = absurd l
+idle-at (rests {k}) l = subst (λ (n : ℕ). Idle (intermission n)) (sym l) is-third
+
+-- HISTORIES
+
+abbrev tableAfter : List ℕ → Where
+tableAfter h = whereFrom [] waiting (acceptedOf h)
+
+ones-bits : (n : ℕ) → AllBits (recessive n)
+ones-bits zero = tt
+ones-bits (suc n) = (lit< tt, ones-bits n)
+
+pub fits-reached : (h : List ℕ) → fits (reached h) ≡ true
+fits-reached h = good-reached h .fit
+
+pub as-table : (h : List ℕ) → answersTo newListener h ≡ tableAnswers [] waiting h
+as-table h = calls-say h [] newListener waiting good-new
+
+-- seventeen recessive samples
+settled : (h : List ℕ) → tableAfter (h ++ recessive enough) ≡ ready
+settled h =
+    ap (whereFrom [] waiting) (accepted-append h (recessive enough) ∙ ap (λ (l : List ℕ). acceptedOf h ++ l) (accepted-bits (recessive enough) (ones-bits enough)))
+    ∙ where-append [] waiting (acceptedOf h) (recessive enough)
+    ∙ seventeen (acceptedOf h) (tableAfter h) (good-reached h .valid)
+
+pub ready-again : (h : List ℕ) → reached (h ++ recessive enough) .core .place ≡ Ready
+ready-again h = place-ready (good-reached (h ++ recessive enough) .stands .place) (settled h)
+
+-- an image
+pub image-heard : (h : List ℕ) (r : Received) → Legal r → Listening (reached h .core .place) → answersTo (reached h) (image r) ≡ reply r
+image-heard h r l i =
+    let g = good-reached h in
+    calls-say (image r) (acceptedOf h) (reached h) (tableAfter h) g
+    ∙ answers-bits (image r) (acceptedOf h) (tableAfter h) (image-bits r)
+    ∙ hears-image (tableAfter h) r (idle-at (g .stands .place) i) l (acceptedOf h) .0
+
+-- a line
+line-bits : (ps : List Piece) (k : ℕ) → AllBits (lineOf ps k)
+line-bits [] k = ones-bits k
+line-bits (p ∷ ps) k =
+    all-bits-append (recessive (p .gap)) (image (p .received) ++ lineOf ps k) (ones-bits (p .gap))
+    (all-bits-append (image (p .received)) (lineOf ps k) (image-bits (p .received)) (line-bits ps k))
+
+pub line-heard : (h : List ℕ) (ps : List Piece) (k : ℕ) → Line ps
+    → answersTo (reached (h ++ recessive enough)) (lineOf ps k) ≡ repliesTo ps k
+line-heard h ps k l =
+    let h′ : List ℕ = h ++ recessive enough in
+    calls-say (lineOf ps k) (acceptedOf h′) (reached h′) (tableAfter h′) (good-reached h′)
+    ∙ answers-bits (lineOf ps k) (acceptedOf h′) (tableAfter h′) (line-bits ps k)
+    ∙ ap (λ (p : Where). saysFrom (acceptedOf h′) p (lineOf ps k)) (settled h)
+    ∙ hears-line ps k l (acceptedOf h′)
+
+pub answers-take : (n : ℕ) (l : Listener) (xs : List ℕ) → answersTo l (take n xs) ≡ take n (answersTo l xs)
+answers-take zero l xs = refl
+answers-take (suc n) l [] = refl
+answers-take (suc n) l (x ∷ xs) = ap (λ (t : List Said). said (heard l x) ∷ t) (answers-take n (heard l x .next) xs)
+
+-- a frame handed out
+refused-is-none : (n : ℕ) (r : Received) → refused n ≡ handed r → ⊥
+refused-is-none n r e = let z : _≡_ {A = ℕ} 0 1 = cc in omega arith
+
+pub came-from : (h : List ℕ) (b : ℕ) (r : Received) → said (heard (reached h) b) ≡ handed r → CameFrom (acceptedOf (h ++ (b ∷ []))) r
+came-from h b r e =
+    let g = good-reached h in
+    subst (λ (xs : List ℕ). CameFrom xs r) (sym (accepted-append h (b ∷ [])))
+    (either (λ (xs : List ℕ). CameFrom (acceptedOf h ++ xs) r) (ltb b 2)
+    (λ t.
+    let bit : b < 2 = ltb-true b 2 t in
+    caution (acceptedOf h) (tableAfter h) b r bit (g .bits) (g .marks) (sym (says-row (acceptedOf h) (reached h) (tableAfter h) g b bit) ∙ e))
+    (λ t. absurd (refused-is-none 6 r (sym (ap said (heard-refused (acceptedOf h) (reached h) (tableAfter h) g b t)) ∙ e))))

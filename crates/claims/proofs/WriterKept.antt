@@ -1,0 +1,27 @@
+-- The writer's promises are kept: by the laws of its contract, and by the central lemma for what is read back.
+use Prim.Native.Nat.{ℕ}
+use mathlib.Core.Path.{_≡_, ap, _∙_}
+use mathlib.Core.List.{List}
+use Rattle.wire.specs.declared.frames.Frame.{Frame}
+use Rattle.wire.specs.ImageLaws.{image-length}
+use Rattle.writer.specs.declared.written.Written.{Written}
+use Rattle.writer.specs.Refusals.{frameRefusal}
+use Rattle.writer.specs.Exactly.{call-exactly}
+use Rattle.writer.specs.Writer.{wireBits, outcome, answer}
+use Rattle.writer.specs.WriterLaws.{refused-bits, refused-capture, written-bits, capture-placed}
+use Rattle.claims.specs.Histories.{answersTo, reached, Listening}
+use Rattle.claims.specs.ReadBack.{readAs, EightBytes}
+use Rattle.claims.specs.Promises.{WriterPromises}
+use Rattle.claims.proofs.ReadBack.{legal-back, image-back}
+use Rattle.claims.proofs.Calls.{image-heard}
+
+pub writer-kept : WriterPromises
+unfolding wireBits
+writer-kept =
+    record {
+      refusals = call-exactly;
+      untouched = λ (f : Frame) (c c′ : List ℕ) (start : ℕ) (w : Written) (e : outcome w c′ ≡ answer f c start) (n : w .refusal ≡ 0 → ⊥). (refused-bits f c c′ start w e n, refused-capture f c c′ start w e n);
+      written = λ (f : Frame) (c c′ : List ℕ) (start : ℕ) (w : Written) (e : outcome w c′ ≡ answer f c start) (z : w .refusal ≡ 0). (written-bits f c c′ start w e z, capture-placed f c c′ start w e z);
+      reads-back = λ (h : List ℕ) (f : Frame) (b : EightBytes f) (ok : frameRefusal f ≡ 0) (l : Listening (reached h .core .place)). ap (answersTo (reached h)) (image-back f ok b) ∙ image-heard h (readAs f) (legal-back f ok b) l;
+      image-length = image-length;
+    }

@@ -1,0 +1,10 @@
+pub mod Answers
+pub mod Table
+pub mod Lines
+pub mod Histories
+pub mod Sixteen
+pub mod ReadBack
+pub mod LedgerHistory
+pub mod LedgerSamples
+pub mod Samples
+pub mod Promises
