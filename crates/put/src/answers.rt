@@ -1,0 +1,46 @@
+// What a line is answered by.
+use crate::notation::read;
+use libc::STDOUT_FILENO;
+use wire::Frame;
+
+// `0` for a dominant sample and `1` for any other.
+fn letter(b: u8) -> u8 {
+    if b == 0 { b'0' } else { b'1' }
+}
+
+fn letters(samples: &mut [u8]) {
+    let mut k = 0;
+    while k < samples.len() {
+        samples[k] = letter(samples[k]);
+        k += 1;
+    }
+}
+
+fn print_front(s: &[u8], n: usize) {
+    if n <= s.len() {
+        io::write_all(STDOUT_FILENO, &s[0..n]);
+    }
+}
+
+// The wire image, for which the capture has room, or the refusal.
+fn print_image(f: Frame) {
+    let mut capture = [0u8; 160];
+    let written = writer::write(f, &mut capture, 0);
+    if written.refusal == 0 {
+        letters(&mut capture);
+        print_front(&capture, written.bits);
+    } else {
+        io::write_all(STDOUT_FILENO, b"refused ");
+        io::print_decimal(STDOUT_FILENO, written.refusal as u64);
+    }
+    io::write_all(STDOUT_FILENO, b"\n");
+}
+
+pub(crate) fn answer(line: &[u8]) {
+    let reading = read(line);
+    if reading.reads {
+        print_image(reading.frame);
+    } else {
+        io::write_all(STDOUT_FILENO, b"not a frame\n");
+    }
+}
