@@ -89,6 +89,9 @@ pub fn wrong_last_stuff_bit(random: &mut Random) -> String {
 pub fn disturbed(random: &mut Random) -> String {
     let mut image = sound(random);
     for _ in 0..random.pick(&[1, 1, 1, 2, 3]) {
+        if image.is_empty() {
+            break;
+        }
         let at = random.below(image.len());
         match random.below(7) {
             0..=2 => flip(&mut image, at),
