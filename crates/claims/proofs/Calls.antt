@@ -19,7 +19,8 @@ use Rattle.listener.specs.declared.listeners.Listener.{Listener}
 use Rattle.listener.specs.Listener.{newListener, fits, heard}
 use Rattle.claims.specs.Answers.{Said, handed, refused, said}
 use Rattle.claims.specs.Table.{Where, waiting, ready, intermission, whereFrom, saysFrom}
-use Rattle.claims.specs.Lines.{recessive, enough, Piece, lineOf, Line, reply, repliesTo, CameFrom}
+use Rattle.claims.specs.Numbers.{settling}
+use Rattle.claims.specs.Lines.{recessive, Piece, lineOf, Line, reply, repliesTo, CameFrom}
 use Rattle.claims.specs.Histories.{Listening, answersTo, reached, acceptedOf, tableAnswers}
 use Rattle.claims.proofs.Cases.{either}
 use Rattle.claims.proofs.AsTable.{At, waits, readies, stuffs, delimits, slots, acks, ends, rests}
@@ -69,14 +70,14 @@ pub as-table : (h : List ℕ) → answersTo newListener h ≡ tableAnswers [] wa
 as-table h = calls-say h [] newListener waiting good-new
 
 -- seventeen recessive samples
-settled : (h : List ℕ) → tableAfter (h ++ recessive enough) ≡ ready
+settled : (h : List ℕ) → tableAfter (h ++ recessive settling) ≡ ready
 settled h =
-    ap (whereFrom [] waiting) (accepted-append h (recessive enough) ∙ ap (λ (l : List ℕ). acceptedOf h ++ l) (accepted-bits (recessive enough) (ones-bits enough)))
-    ∙ where-append [] waiting (acceptedOf h) (recessive enough)
+    ap (whereFrom [] waiting) (accepted-append h (recessive settling) ∙ ap (λ (l : List ℕ). acceptedOf h ++ l) (accepted-bits (recessive settling) (ones-bits settling)))
+    ∙ where-append [] waiting (acceptedOf h) (recessive settling)
     ∙ seventeen (acceptedOf h) (tableAfter h) (good-reached h .valid)
 
-pub ready-again : (h : List ℕ) → reached (h ++ recessive enough) .core .place ≡ Ready
-ready-again h = place-ready (good-reached (h ++ recessive enough) .stands .place) (settled h)
+pub ready-again : (h : List ℕ) → reached (h ++ recessive settling) .core .place ≡ Ready
+ready-again h = place-ready (good-reached (h ++ recessive settling) .stands .place) (settled h)
 
 -- an image
 pub image-heard : (h : List ℕ) (r : Received) → Legal r → Listening (reached h .core .place) → answersTo (reached h) (image r) ≡ reply r
@@ -94,9 +95,9 @@ line-bits (p ∷ ps) k =
     (all-bits-append (image (p .received)) (lineOf ps k) (image-bits (p .received)) (line-bits ps k))
 
 pub line-heard : (h : List ℕ) (ps : List Piece) (k : ℕ) → Line ps
-    → answersTo (reached (h ++ recessive enough)) (lineOf ps k) ≡ repliesTo ps k
+    → answersTo (reached (h ++ recessive settling)) (lineOf ps k) ≡ repliesTo ps k
 line-heard h ps k l =
-    let h′ : List ℕ = h ++ recessive enough in
+    let h′ : List ℕ = h ++ recessive settling in
     calls-say (lineOf ps k) (acceptedOf h′) (reached h′) (tableAfter h′) (good-reached h′)
     ∙ answers-bits (lineOf ps k) (acceptedOf h′) (tableAfter h′) (line-bits ps k)
     ∙ ap (λ (p : Where). saysFrom (acceptedOf h′) p (lineOf ps k)) (settled h)

@@ -23,7 +23,8 @@ use Rattle.wire.specs.Layout.{Got}
 use Rattle.wire.specs.FramesLaws.{gotFields, GotIn}
 use Rattle.claims.specs.Answers.{Said, nothing, handed, stuffError, formError, crcError, overload, refused}
 use Rattle.claims.specs.Table.{Where, waiting, ready, stuffed, crcDelimiter, ackSlot, ackDelimiter, endOfFrame, intermission, Row, sixth, checks, receivedFrom, row}
-use Rattle.claims.specs.Lines.{recessive, quietBefore, allButLast, CameFrom}
+use Rattle.claims.specs.Numbers.{quiet}
+use Rattle.claims.specs.Lines.{recessive, allButLast, CameFrom}
 use Rattle.claims.proofs.Cases.{either}
 use Rattle.claims.proofs.Frames.{padded-stored}
 use Rattle.claims.proofs.Marks.{Since, front, Marks, end-more}
@@ -131,5 +132,5 @@ caution h p b r bit a m e =
     (record {
       legal = legal g x (k .1) (k .2) (k .3);
       early = one-more .0;
-      whole = one-more .1 ∙ ap (λ (l : List ℕ). one-more .0 ++ (recessive quietBefore ++ l)) (sym (but-last g x (k .1) (k .2) (k .3)));
+      whole = one-more .1 ∙ ap (λ (l : List ℕ). one-more .0 ++ (recessive quiet ++ l)) (sym (but-last g x (k .1) (k .2) (k .3)));
     })

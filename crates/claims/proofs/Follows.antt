@@ -10,8 +10,9 @@ use lib.ListN.{length, take, drop, set}
 use lib.Seq.{sets, sets-eq, take-append-seam}
 use lib.Dec.{eqb}
 use borrow.Author.Tests.{lt-ltb, le-ltb, eqb-true, eqb-false}
-use Rattle.wire.specs.Numbers.{room, crcWidth}
-use Rattle.wire.specs.Fields.{carried}
+use Rattle.wire.specs.Numbers.{room, srrNoted, r1Noted, r0Noted, baseWidth, lowerWidth, crcWidth}
+use Rattle.wire.specs.Stuffing.{opposite}
+use Rattle.wire.specs.Fields.{notedSum, joined, carried}
 use Rattle.wire.specs.FieldsLaws.{carried-most}
 use Rattle.wire.specs.Layout.{Layout, done, part, Got, bytesOf, restOf, baseRest, extendedRest, frames}
 use Rattle.wire.specs.declared.idents.Ident.{Ident}
@@ -93,7 +94,7 @@ note-one zero w h = omega arith
 note-one (suc zero) w h = omega arith
 note-one (suc (suc b)) w h = absurd (omega arith)
 
-note-srr : (s : ℕ) → s < 2 → noteOf s 0 4 ≡ (1 - s) * 4
+note-srr : (s : ℕ) → s < 2 → noteOf s 0 srrNoted ≡ opposite s * srrNoted
 note-srr zero h = refl
 note-srr (suc zero) h = refl
 note-srr (suc (suc s)) h = absurd (omega arith)
@@ -101,7 +102,7 @@ note-srr (suc (suc s)) h = absurd (omega arith)
 abbrev heads : ℕ → ℕ → ℕ → ℕ → ℕ → ℕ → ℕ → Registers
 heads u s i l x y z = record { upper = u; srr = s; ide = i; lower = l; rtr = x; r1 = y; r0 = z; code = 0; crc = 0 }
 
-module _ (bytes : List ℕ) (size : length bytes ≡ room) (u s : ℕ) (hu : u < 2 ^ 11) (hs : s < 2 ^ 1) where
+module _ (bytes : List ℕ) (size : length bytes ≡ room) (u s : ℕ) (hu : u < 2 ^ baseWidth) (hs : s < 2 ^ 1) where
   base-follows : Follows R0 (heads u s 0 0 0 0 0) bytes (baseRest u s)
   base-follows = (
     refl,
@@ -115,7 +116,7 @@ module _ (bytes : List ℕ) (size : length bytes ≡ room) (u s : ℕ) (hu : u <
   extended-follows = (
     refl,
     refl,
-    λ (l : ℕ) (hl : l < 2 ^ 18).
+    λ (l : ℕ) (hl : l < 2 ^ lowerWidth).
         rw (mod-eq-of-lt hl) (
           refl,
           refl,
@@ -128,9 +129,9 @@ module _ (bytes : List ℕ) (size : length bytes ≡ room) (u s : ℕ) (hu : u <
                       refl,
                       refl,
                       λ (z : ℕ) (hz : z < 2 ^ 1).
-                          let n : noteOf s 0 4 + noteOf y 1 2 + noteOf z 1 1 ≡ (1 - s) * 4 + y * 2 + z = omega (arith, note-srr s hs, note-one y 2 hy, note-one z 1 hz) in
-                          let d : _≡_ {A = Ident} (Extended (record { 0 = u % 2 ^ 11 * 2 ^ 18 + l % 2 ^ 18 })) (Extended (record { 0 = u * 2 ^ 18 + l })) = rw (mod-eq-of-lt hu, mod-eq-of-lt hl) in
-                          rw (mod-eq-of-lt hz) (rest-follows (heads u s 1 l x y z) bytes (Extended (record { 0 = u * 2 ^ 18 + l })) (eqb x 1) ((1 - s) * 4 + y * 2 + z) size d refl n),
+                          let n : noteOf s 0 srrNoted + noteOf y 1 r1Noted + noteOf z 1 r0Noted ≡ notedSum s y z = omega (arith, note-srr s hs, note-one y r1Noted hy, note-one z r0Noted hz) in
+                          let d : _≡_ {A = Ident} (Extended (record { 0 = joined (u % 2 ^ baseWidth) (l % 2 ^ lowerWidth) })) (Extended (record { 0 = joined u l })) = rw (mod-eq-of-lt hu, mod-eq-of-lt hl) in
+                          rw (mod-eq-of-lt hz) (rest-follows (heads u s 1 l x y z) bytes (Extended (record { 0 = joined u l })) (eqb x 1) (notedSum s y z) size d refl n),
                     ),
               ),
         ),
@@ -141,7 +142,7 @@ pub follows : (bytes : List ℕ) → length bytes ≡ room → Follows Upper new
 follows bytes size = (
   refl,
   refl,
-  λ (u : ℕ) (hu : u < 2 ^ 11).
+  λ (u : ℕ) (hu : u < 2 ^ baseWidth).
       rw (mod-eq-of-lt hu) (
         refl,
         refl,
@@ -150,7 +151,7 @@ follows bytes size = (
       ),
 )
   where
-    either : (u : ℕ) → u < 2 ^ 11 → (s : ℕ) → s < 2 ^ 1 → (i : ℕ) → i < 2 ^ 1 → (t : Bool) → eqb i 0 ≡ t
+    either : (u : ℕ) → u < 2 ^ baseWidth → (s : ℕ) → s < 2 ^ 1 → (i : ℕ) → i < 2 ^ 1 → (t : Bool) → eqb i 0 ≡ t
         → Follows (cond t R0 Lower) (heads u s i 0 0 0 0) bytes (cond t (baseRest u s) (extendedRest u s))
     either u hu s hs i hi true e = let n : i ≡ 0 = eqb-true i 0 e in rw n (base-follows bytes size u s hu hs)
     either u hu s hs i hi false e = let n : i ≡ 1 = omega (arith, eqb-false i 0 e) in rw n (extended-follows bytes size u s hu hs)

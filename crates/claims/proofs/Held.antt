@@ -1,5 +1,5 @@
 -- What a reader at the end of its frame holds: the fields that the bits are, their CRC in the register, and the frame to hand out.
-use Prim.Native.Nat.{ℕ, _+_, _-_, _<_}
+use Prim.Native.Nat.{ℕ, _+_, _-_, _^_, _<_}
 use mathlib.Core.Path.{_≡_, refl, sym, ap, ap₂, subst, _∙_}
 use mathlib.Core.Bool.{true}
 use mathlib.Core.List.{List, [], _∷_, _++_, append-assoc, append-nil}
@@ -7,7 +7,7 @@ use native.Mathlib.Omega.{arith}
 use native.Mathlib.Nat.{mod-eq-of-lt}
 use lib.ListN.{length, take, length-append, length-take}
 use lib.Seq.{take-append-seam}
-use Rattle.wire.specs.Numbers.{room, codes, crcWidth, crcGenerator, crcStart}
+use Rattle.wire.specs.Numbers.{room, codeWidth, crcWidth, crcGenerator, crcStart}
 use Rattle.wire.specs.Bits.{bits, xors}
 use Rattle.wire.specs.BitsLaws.{length-bits}
 use Rattle.wire.specs.Crc.{crcStep, crcFrom, crc}
@@ -81,7 +81,7 @@ module _ (f : InFrame) (bytes xs : List ℕ) (g : Got) (t : Taken f bytes xs) (e
 
 -- THE FRAME TO HAND OUT
 
-held-is : (f : InFrame) (bytes : List ℕ) → length bytes ≡ room → f .reader .registers .code < codes
+held-is : (f : InFrame) (bytes : List ℕ) → length bytes ≡ room → f .reader .registers .code < 2 ^ codeWidth
     → receivedOf f bytes ≡ receivedFrom (held (f .reader .registers) bytes) (f .slot)
 held-is f bytes size h =
     let n : ℕ = bytesToCome (f .reader .registers) in
@@ -90,5 +90,5 @@ held-is f bytes size h =
 
 pub received-is : (g : Got) (f : InFrame) (bytes : List ℕ) → Complete g f bytes → receivedOf f bytes ≡ receivedFrom g (f .slot)
 received-is g f bytes c =
-    let h : f .reader .registers .code < codes = omega (arith, c .legal .code, ap (λ (x : Got). x .code) (c .holds)) in
+    let h : f .reader .registers .code < 2 ^ codeWidth = omega (arith, c .legal .code, ap (λ (x : Got). x .code) (c .holds)) in
     held-is f bytes (c .size) h ∙ ap (λ (x : Got). receivedFrom x (f .slot)) (c .holds)

@@ -11,6 +11,7 @@ use borrow.Author.Tests.{lt-ltb, le-ltb}
 use Rattle.ledger.specs.declared.state.State.the-variants.{Active, Passive, BusOff}
 use Rattle.ledger.specs.declared.event.Event.{Event}
 use Rattle.ledger.specs.declared.event.Event.the-variants.{ErrorFlagSent, ElevenRecessive}
+use Rattle.ledger.specs.Numbers.{offAbove}
 use Rattle.ledger.specs.Rules.{new, change, isPassive, next, stateOf, ledger}
 use Rattle.ledger.specs.declared.ledger.Ledger.{Ledger}
 use Rattle.ledger.specs.declared.ledger.Ledgered.{Ledgered}
@@ -40,16 +41,16 @@ not-off : (b : Bool) → cond b Passive Active ≡ BusOff → ⊥
 not-off true h = let z : _≡_ {A = ℕ} 0 1 = cc in omega arith
 not-off false h = let z : _≡_ {A = ℕ} 0 1 = cc in omega arith
 
-on-not-off : (t r g : ℕ) → t ≤ 255 → stateOf (ledger t r g) ≡ BusOff → ⊥
-on-not-off t r g h o = not-off (isPassive t r) (simp (le-ltb 255 t h) at o)
+on-not-off : (t r g : ℕ) → t ≤ offAbove → stateOf (ledger t r g) ≡ BusOff → ⊥
+on-not-off t r g h o = not-off (isPassive t r) (simp (le-ltb offAbove t h) at o)
 
 not-passed-on : (h : List Event) → NotPassed h → stateOf (run h new) ≡ BusOff → ⊥
 not-passed-on h n o =
-    let t : T-of (n .since) ≤ 255 = rw (take-length (n .since)) at (n .calm (length (n .since)) (omega arith)) in
+    let t : T-of (n .since) ≤ offAbove = rw (take-length (n .since)) at (n .calm (length (n .since)) (omega arith)) in
     on-not-off (T-of (n .since)) (R-of (n .since)) 0 t (rw (run-not-passed h n) at o)
 
 passed-off : (h : List Event) → Passed h → stateOf (run h new) ≡ BusOff
-passed-off h p = rw (run-passed h p, lt-ltb 255 (T-of (p .since)) (p .passes .1))
+passed-off h p = rw (run-passed h p, lt-ltb offAbove (T-of (p .since)) (p .passes .1))
 
 off-exactly : (h : List Event) → (stateOf (run h new) ≡ BusOff) ↔ Passed h
 off-exactly h = (λ o. ⊎-elim (λ n. absurd (not-passed-on h n o)) (λ p. p) (split h), passed-off h)

@@ -10,6 +10,7 @@ use lib.ListN.{length, take}
 use borrow.Author.Tests.{lt-ltb, le-ltb}
 use Rattle.ledger.specs.declared.event.Event.{Event}
 use Rattle.ledger.specs.declared.event.Event.the-variants.{ElevenRecessive}
+use Rattle.ledger.specs.Numbers.{offAbove, mostGroups}
 use Rattle.ledger.specs.Rules.{Counts, counts, ledger, new, change, isGroup, grouped, waiting}
 use Rattle.ledger.specs.RulesLaws.{next-on, next-off}
 use Rattle.ledger.specs.History.{run}
@@ -19,7 +20,7 @@ use Rattle.claims.specs.LedgerHistory.{worked, T-of, R-of, group, groups
 
 -- while T is at most 255
 
-run-counts : (h : List Event) (c : Counts) (g : ℕ) → ((n : ℕ) → n < length h → worked c (take n h) .T ≤ 255) →
+run-counts : (h : List Event) (c : Counts) (g : ℕ) → ((n : ℕ) → n < length h → worked c (take n h) .T ≤ offAbove) →
     run h (ledger (c .T) (c .R) g) ≡ ledger (worked c h .T) (worked c h .R) g
 unfolding run
 run-counts [] c g calm = refl
@@ -30,24 +31,24 @@ run-counts (e ∷ h) c g calm =
 -- once T has passed 255
 
 module _ (t r : ℕ) where
-  seen : (b : Bool) (g : ℕ) → g + cond b 1 0 ≤ 127 → cond b (grouped (ledger t r g)) (ledger t r g) ≡ ledger t r (g + cond b 1 0)
-  seen true g h = rw (lt-ltb g 127 (omega arith))
+  seen : (b : Bool) (g : ℕ) → g + cond b 1 0 ≤ mostGroups → cond b (grouped (ledger t r g)) (ledger t r g) ≡ ledger t r (g + cond b 1 0)
+  seen true g h = rw (lt-ltb g mostGroups (omega arith))
   seen false g h = rw (add-zero g)
 
-  run-groups : (h : List Event) (g : ℕ) → 255 < t → g + groups h ≤ 127 → run h (ledger t r g) ≡ ledger t r (g + groups h)
+  run-groups : (h : List Event) (g : ℕ) → offAbove < t → g + groups h ≤ mostGroups → run h (ledger t r g) ≡ ledger t r (g + groups h)
   unfolding run waiting
   run-groups [] g off few = rw (add-zero g)
   run-groups (e ∷ h) g off few =
       rw (next-off e (ledger t r g) off, seen (isGroup e) g (omega arith), ← add-assoc g (group e) (groups h))
       (run-groups h (g + group e) off (omega arith))
 
-run-passes : (b c : List Event) → Passes b → groups c ≤ 127 → run (b ++ c) new ≡ ledger (T-of b) (R-of b) (groups c)
+run-passes : (b c : List Event) → Passes b → groups c ≤ mostGroups → run (b ++ c) new ≡ ledger (T-of b) (R-of b) (groups c)
 run-passes b c p few =
     rw (run-append b c new, run-counts b (counts 0 0) 0 (p .0), run-groups (T-of b) (R-of b) c 0 (p .1) (omega arith), zero-add (groups c))
 
 -- the 128th group
 
-run-back : (b c : List Event) → Passes b → groups c ≡ 127 → run (b ++ (c ++ (ElevenRecessive ∷ []))) new ≡ new
+run-back : (b c : List Event) → Passes b → groups c ≡ mostGroups → run (b ++ (c ++ (ElevenRecessive ∷ []))) new ≡ new
 unfolding run waiting
 run-back b c p full =
     rw (
@@ -55,7 +56,7 @@ run-back b c p full =
       run-append (b ++ c) (ElevenRecessive ∷ []) new,
       run-passes b c p (omega arith),
       next-off ElevenRecessive (ledger (T-of b) (R-of b) (groups c)) (p .1),
-      le-ltb (groups c) 127 (omega arith),
+      le-ltb (groups c) mostGroups (omega arith),
     )
 
 pub run-as-new : {a : List Event} → AsNew a → run a new ≡ new

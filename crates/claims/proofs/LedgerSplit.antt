@@ -10,18 +10,19 @@ use lib.ListN.{length, take, length-append}
 use lib.Seq.{take-append-le, take-all, take-nil}
 use Rattle.ledger.specs.declared.event.Event.{Event}
 use Rattle.ledger.specs.declared.event.Event.the-variants.{ErrorSeen, DominantAfterFlag, FlagErrorAsTransmitter, FlagErrorAsReceiver, ErrorFlagSent, AcknowledgeError, StuffBitOverwritten, SentWell, ReceivedWell, ElevenRecessive}
+use Rattle.ledger.specs.Numbers.{offAbove, mostGroups}
 use Rattle.ledger.specs.Rules.{isGroup}
 use Rattle.ledger.specs.Cases.{lt-or-le}
 use Rattle.claims.specs.LedgerHistory.{T-of, group, groups, Calm, AsNew, new, recovery, NotPassed, Passed}
 
 -- one event more, by T
 
-before-last : (h : List Event) (e : Event) → Calm h → (n : ℕ) → n < length (h ++ (e ∷ [])) → T-of (take n (h ++ (e ∷ []))) ≤ 255
+before-last : (h : List Event) (e : Event) → Calm h → (n : ℕ) → n < length (h ++ (e ∷ [])) → T-of (take n (h ++ (e ∷ []))) ≤ offAbove
 before-last h e calm n k =
     let m : n ≤ length h = omega (arith, length-append h (e ∷ [])) in
     rw (take-append-le n h (e ∷ []) m) (calm n m)
 
-calm-more : (h : List Event) (e : Event) → Calm h → T-of (h ++ (e ∷ [])) ≤ 255 → Calm (h ++ (e ∷ []))
+calm-more : (h : List Event) (e : Event) → Calm h → T-of (h ++ (e ∷ [])) ≤ offAbove → Calm (h ++ (e ∷ []))
 calm-more h e calm t n k =
     ⊎-elim (before-last h e calm n) (λ m. rw (take-all n (h ++ (e ∷ [])) m) t) (lt-or-le n (length (h ++ (e ∷ []))))
 
@@ -34,7 +35,7 @@ groups-more : (h : List Event) (e : Event) → groups (h ++ (e ∷ [])) ≡ grou
 groups-more [] e = omega arith
 groups-more (d ∷ h) e = rw (groups-more h e) (sym (add-assoc (group d) (groups h) (group e)))
 
-last-group : (b : Bool) (g : ℕ) → g ≤ 127 → 127 < g + cond b 1 0 → (b ≡ true) × (g ≡ 127)
+last-group : (b : Bool) (g : ℕ) → g ≤ mostGroups → mostGroups < g + cond b 1 0 → (b ≡ true) × (g ≡ mostGroups)
 last-group true g few over = (refl, omega arith)
 last-group false g few over = absurd (omega arith)
 
@@ -72,14 +73,14 @@ not-passed-more h e n =
       waits = omega arith;
     }))
     (λ t. inl (record { before = n .before; since = n .since ++ (e ∷ []); whole = w; as-new = n .as-new; calm = calm-more (n .since) e (n .calm) t }))
-    (lt-or-le 255 (T-of (n .since ++ (e ∷ []))))
+    (lt-or-le offAbove (T-of (n .since ++ (e ∷ []))))
 
 module _ (h : List Event) (e : Event) (p : Passed h) where
   whole-more : h ++ (e ∷ []) ≡ p .before ++ (p .since ++ (p .later ++ (e ∷ [])))
   whole-more = rw (p .whole) (simp append-assoc)
 
   -- it waits on,
-  pub still-passed : groups (p .later) + group e ≤ 127 → Passed (h ++ (e ∷ []))
+  pub still-passed : groups (p .later) + group e ≤ mostGroups → Passed (h ++ (e ∷ []))
   still-passed few = record {
     before = p .before;
     since = p .since;
@@ -91,7 +92,7 @@ module _ (h : List Event) (e : Event) (p : Passed h) where
   }
 
   -- or it has recovered
-  pub recovered : e ≡ ElevenRecessive → groups (p .later) ≡ 127 → AsNew (h ++ (e ∷ []))
+  pub recovered : e ≡ ElevenRecessive → groups (p .later) ≡ mostGroups → AsNew (h ++ (e ∷ []))
   recovered is full = rw (whole-more, is) (recovery (p .before) (p .since) (p .later) (p .as-new) (p .passes) full)
 
   passed-more : Split (h ++ (e ∷ []))
@@ -100,7 +101,7 @@ module _ (h : List Event) (e : Event) (p : Passed h) where
       (λ over. let (is, full) = last-group (isGroup e) (groups (p .later)) (omega (arith, p .waits)) over in
       inl (start (recovered (only-eleven e is) full)))
       (λ few. inr (still-passed few))
-      (lt-or-le 127 (groups (p .later) + group e))
+      (lt-or-le mostGroups (groups (p .later) + group e))
 
 split-on : (h k : List Event) → Split h → Split (h ++ k)
 split-on h [] s = rw (append-nil h) s

@@ -6,11 +6,11 @@ use mathlib.Core.List.{List, [], _∷_, _++_}
 use native.Mathlib.Omega.{arith}
 use lib.ListN.{replicate, length-replicate}
 use Rattle.wire.specs.declared.frames.Received.{Received}
-use Rattle.wire.specs.Numbers.{between}
 use Rattle.wire.specs.Image.{image}
 use Rattle.wire.specs.Legal.{Legal}
 use Rattle.claims.specs.Answers.{Said, nothing}
 use Rattle.claims.specs.Table.{Where, ready, intermission, saysFrom}
+use Rattle.claims.specs.Numbers.{between}
 use Rattle.claims.specs.Lines.{recessive, Piece, lineOf, Spaced, Line, reply, repliesTo}
 use Rattle.claims.proofs.Trace.{says-append, silence, Silent, silent-nil, silent-one, hush}
 use Rattle.claims.proofs.Complete.{Idle, is-ready, is-third, hears-image}

@@ -23,7 +23,8 @@ use Rattle.listener.specs.Listener.{newListener, answerTo, accepted, fits, hear
 use Rattle.claims.specs.Answers.{Said, nothing, handed, stuffError, formError, crcError, overload, refused, faultSaid, said}
 use Rattle.claims.specs.Table.{Where, waiting, row}
 use Rattle.claims.specs.Histories.{answersTo, afterCalls, reached, acceptedOf, unrefused}
-use Rattle.claims.specs.Lines.{recessive, enough, Piece, lineOf, Line}
+use Rattle.claims.specs.Numbers.{settling}
+use Rattle.claims.specs.Lines.{recessive, Piece, lineOf, Line}
 use Rattle.claims.specs.Sixteen.{beforeSixteen}
 use Rattle.claims.specs.Promises.{ListenerPromises}
 use Rattle.claims.proofs.Cases.{either}
@@ -142,5 +143,5 @@ listener-kept =
       came-from-image = calls.came-from;
       ready-again = calls.ready-again;
       sixteen = sixteen;
-      each-once = λ (h : List ℕ) (ps : List Piece) (k n : ℕ) (l : Line ps). calls.answers-take n (reached (h ++ recessive enough)) (lineOf ps k) ∙ ap (take n) (calls.line-heard h ps k l);
+      each-once = λ (h : List ℕ) (ps : List Piece) (k n : ℕ) (l : Line ps). calls.answers-take n (reached (h ++ recessive settling)) (lineOf ps k) ∙ ap (take n) (calls.line-heard h ps k l);
     }

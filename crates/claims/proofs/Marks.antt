@@ -19,7 +19,8 @@ use Rattle.wire.specs.Layout.{Layout, done, part, Walker, enter, took, Got, fra
 use Rattle.wire.specs.LayoutLaws.{Open, Stood, stood-new, stood-took, takes-append}
 use Rattle.wire.specs.FramesLaws.{gotFields, GotIn, sized-frames}
 use Rattle.claims.specs.Table.{Where, waiting, ready, stuffed, crcDelimiter, ackSlot, ackDelimiter, endOfFrame, intermission, Row, recessivesFrom, recessives, sixth, reading, ended, onward, checks, row}
-use Rattle.claims.specs.Lines.{recessive, quietBefore}
+use Rattle.claims.specs.Numbers.{quiet}
+use Rattle.claims.specs.Lines.{recessive}
 use Rattle.claims.proofs.Cases.{either}
 use Rattle.claims.proofs.Stuffing.{walker, open-onward, whole-bits}
 use Rattle.claims.proofs.AsTable.{recessives-snoc}
@@ -57,20 +58,20 @@ trail h n a k =
 
 -- ten recessive samples, and then these
 abbrev pub Since : List ℕ → List ℕ → Type 0
-Since h s = (early : List ℕ) × (h ≡ early ++ (recessive quietBefore ++ s))
+Since h s = (early : List ℕ) × (h ≡ early ++ (recessive quiet ++ s))
 
 since-snoc : (h s : List ℕ) (b : ℕ) → Since h s → Since (h ++ (b ∷ [])) (s ++ (b ∷ []))
 since-snoc h s b e = (
   e .0,
   ap (λ (l : List ℕ). l ++ (b ∷ [])) (e .1)
-      ∙ append-assoc (e .0) (recessive quietBefore ++ s) (b ∷ [])
-      ∙ ap (λ (l : List ℕ). e .0 ++ l) (append-assoc (recessive quietBefore) s (b ∷ [])),
+      ∙ append-assoc (e .0) (recessive quiet ++ s) (b ∷ [])
+      ∙ ap (λ (l : List ℕ). e .0 ++ l) (append-assoc (recessive quiet) s (b ∷ [])),
 )
 
-since-start : (h : List ℕ) → AllBits h → quietBefore ≤ recessives h → Since (h ++ (0 ∷ [])) (0 ∷ [])
+since-start : (h : List ℕ) → AllBits h → quiet ≤ recessives h → Since (h ++ (0 ∷ [])) (0 ∷ [])
 since-start h a k =
-    let t = trail h quietBefore a k in
-    (t .0, ap (λ (l : List ℕ). l ++ (0 ∷ [])) (t .1) ∙ append-assoc (t .0) (recessive quietBefore) (0 ∷ []))
+    let t = trail h quiet a k in
+    (t .0, ap (λ (l : List ℕ). l ++ (0 ∷ [])) (t .1) ∙ append-assoc (t .0) (recessive quiet) (0 ∷ []))
 
 -- a bit more is taken where a field is to be read
 stood-more : (xs : List ℕ) (b : ℕ) → b < 2 → Stood frames (walker xs) xs → Open (walker xs .rest)
@@ -97,7 +98,7 @@ front g = 0 ∷ stuffFrom begun (raw (gotFields g) ++ (1 ∷ []))
 
 abbrev pub Marks : List ℕ → Where → Type 0
 Marks h waiting = Unit {0}
-Marks h ready = quietBefore ≤ recessives h
+Marks h ready = quiet ≤ recessives h
 Marks h (stuffed s) = Since h s × Coded s × (onward s ≡ stuffed s)
 Marks h (crcDelimiter g) = (s : List ℕ) × Since h s × (s ++ (1 ∷ []) ≡ front g) × GotIn g
 Marks h (ackSlot g) = Since h (front g) × GotIn g
@@ -162,7 +163,7 @@ coded-start : Coded (0 ∷ [])
 coded-start = record { bits = (lit< tt, tt); unbroken = (refl, tt); taken = []; starts = refl; stood = stood-new frames sized-frames }
 
 -- a dominant bit behind ten recessive ones
-marks-start : (h : List ℕ) (b : ℕ) → AllBits h → b ≡ 0 → quietBefore ≤ recessives h → Marks (h ++ (b ∷ [])) (stuffed (0 ∷ []))
+marks-start : (h : List ℕ) (b : ℕ) → AllBits h → b ≡ 0 → quiet ≤ recessives h → Marks (h ++ (b ∷ [])) (stuffed (0 ∷ []))
 marks-start h b a e k = rw e (since-start h a k, coded-start, refl)
 
 module _ (h : List ℕ) (b : ℕ) (bit : b < 2) (a : AllBits h) where

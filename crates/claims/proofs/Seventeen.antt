@@ -12,7 +12,8 @@ use Rattle.wire.specs.Stuffing.{none, ran, ranFrom}
 use Rattle.wire.specs.StuffingLaws.{ran-append}
 use Rattle.wire.specs.Layout.{Layout, done, part, Got}
 use Rattle.claims.specs.Table.{Where, waiting, ready, stuffed, crcDelimiter, ackSlot, ackDelimiter, endOfFrame, intermission, Row, recessives, sixth, reading, ended, onward, checks, row, whereFrom}
-use Rattle.claims.specs.Lines.{recessive, enough}
+use Rattle.claims.specs.Numbers.{settling}
+use Rattle.claims.specs.Lines.{recessive}
 use Rattle.claims.proofs.Cases.{either}
 use Rattle.claims.proofs.AsTable.{recessives-snoc}
 
@@ -146,7 +147,7 @@ module _ (h : List ℕ) where
 
 -- SEVENTEEN
 
-to-go-most : (n : ℕ) (p : Where) → toGo n p ≤ enough
+to-go-most : (n : ℕ) (p : Where) → toGo n p ≤ settling
 to-go-most n waiting = omega arith
 to-go-most n ready = omega arith
 to-go-most n (stuffed s) = omega arith
@@ -170,5 +171,5 @@ settles : (m : ℕ) (h : List ℕ) (p : Where) → Valid p → toGo (recessives 
 settles zero h p v e = none-to-go (recessives h) p v e
 settles (suc m) h p v e = settles m (h ++ (1 ∷ [])) (row h p 1 .goes) (valid-row h p 1 v) (omega (arith, falls h p v))
 
-pub seventeen : (h : List ℕ) (p : Where) → Valid p → whereFrom h p (recessive enough) ≡ ready
-seventeen h p v = settles enough h p v (to-go-most (recessives h) p)
+pub seventeen : (h : List ℕ) (p : Where) → Valid p → whereFrom h p (recessive settling) ≡ ready
+seventeen h p v = settles settling h p v (to-go-most (recessives h) p)

@@ -4,6 +4,7 @@ use mathlib.Core.Bool.{cond}
 use mathlib.Core.List.{List, [], _∷_, _++_}
 use mathlib.Core.Path.{_≡_}
 use lib.Dec.{ltb}
+use Rattle.wire.specs.Numbers.{intermissionBits}
 use Rattle.line.specs.declared.places.Place.{Place}
 use Rattle.line.specs.declared.places.Place.the-variants.{Waiting, Ready, Stuffed, AckSlot, AckDelimiter, EndOfFrame, Intermission}
 use Rattle.listener.specs.declared.listeners.Listener.{Listener}
@@ -32,7 +33,7 @@ Listening Stuffed = ⊥
 Listening AckSlot = ⊥
 Listening AckDelimiter = ⊥
 Listening (EndOfFrame k) = ⊥
-Listening (Intermission k) = k ≡ 3
+Listening (Intermission k) = k ≡ intermissionBits
 
 -- the samples that are accepted
 abbrev pub acceptedOf : List ℕ → List ℕ

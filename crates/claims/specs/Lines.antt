@@ -4,21 +4,13 @@ use mathlib.Core.Path.{_≡_}
 use mathlib.Core.List.{List, [], _∷_, _++_}
 use lib.ListN.{length, take, replicate}
 use Rattle.wire.specs.declared.frames.Received.{Received}
-use Rattle.wire.specs.Numbers.{settling, quiet, between}
 use Rattle.wire.specs.Image.{image}
 use Rattle.wire.specs.Legal.{Legal}
+use Rattle.claims.specs.Numbers.{quiet, between}
 use Rattle.claims.specs.Answers.{Said, nothing, handed}
 
 abbrev pub recessive : ℕ → List ℕ
 recessive n = replicate n 1
-
--- so many in a row are enough for a listener in any place
-abbrev pub enough : ℕ
-enough = settling
-
--- so many stand right before a start of frame, at least
-abbrev pub quietBefore : ℕ
-quietBefore = quiet
 
 -- so many recessive bits, and an image
 pub record Piece : Type 0 where
@@ -58,4 +50,4 @@ allButLast xs = take (length xs - 1) xs
 pub record CameFrom (samples : List ℕ) (r : Received) : Type 0 where
   pub legal : Legal r
   pub early : List ℕ
-  pub whole : samples ≡ early ++ (recessive quietBefore ++ allButLast (image r))
+  pub whole : samples ≡ early ++ (recessive quiet ++ allButLast (image r))

@@ -1,5 +1,5 @@
 -- THE PROMISES, as statements, kept by `kept` of proofs/Kept.antt. This file is the one to read; docs/PROMISES.md goes through it sentence by sentence.
-use Prim.Native.Nat.{ℕ, _+_, _≤_}
+use Prim.Native.Nat.{ℕ, _+_, _-_, _≤_}
 use mathlib.Core.Path.{_≡_}
 use mathlib.Core.Bool.{true, false}
 use mathlib.Core.Logic.{_⊎_, _↔_}
@@ -25,9 +25,10 @@ use Rattle.ledger.specs.Rules.{ledger, new, stateOf}
 use Rattle.ledger.specs.Answer.{inRange, accepted, after}
 use Rattle.ledger.specs.History.{afterAll}
 use Rattle.claims.specs.declared.ledger_history.Standing.{Standing}
+use Rattle.claims.specs.Numbers.{settling}
 use Rattle.claims.specs.Answers.{handed, refused, said}
 use Rattle.claims.specs.Table.{waiting}
-use Rattle.claims.specs.Lines.{recessive, enough, Piece, lineOf, Line, reply, repliesTo, CameFrom}
+use Rattle.claims.specs.Lines.{recessive, Piece, lineOf, Line, reply, repliesTo, CameFrom}
 use Rattle.claims.specs.Sixteen.{beforeSixteen}
 use Rattle.claims.specs.Histories.{answersTo, reached, Listening, acceptedOf, unrefused, tableAnswers}
 use Rattle.claims.specs.ReadBack.{readAs, EightBytes}
@@ -73,13 +74,13 @@ pub record ListenerPromises : Type 0 where
   pub came-from-image : (h : List ℕ) (b : ℕ) (r : Received) → said (heard (reached h) b) ≡ handed r
       → CameFrom (acceptedOf (h ++ (b ∷ []))) r
   -- demand 3, "Plug a new listener in anywhere, damage the bus in any way. After seventeen recessive bits in a row": it is ready
-  pub ready-again : (h : List ℕ) → reached (h ++ recessive enough) .core .place ≡ Ready
+  pub ready-again : (h : List ℕ) → reached (h ++ recessive settling) .core .place ≡ Ready
   -- and sixteen do not always do
-  pub sixteen : reached (beforeSixteen ++ recessive 16) .core .place ≡ Ready → ⊥
+  pub sixteen : reached (beforeSixteen ++ recessive (settling - 1)) .core .place ≡ Ready → ⊥
   -- demand 3, "and then only recessive bits and whole legal frames with at least two recessive bits between, each of those frames is handed out once, in
   -- order, and nothing else is": so for the line and for every beginning of it
   pub each-once : (h : List ℕ) (ps : List Piece) (k n : ℕ) → Line ps
-      → answersTo (reached (h ++ recessive enough)) (take n (lineOf ps k)) ≡ take n (repliesTo ps k)
+      → answersTo (reached (h ++ recessive settling)) (take n (lineOf ps k)) ≡ take n (repliesTo ps k)
 
 -- THE FAULT LEDGER
 

@@ -1,5 +1,5 @@
 -- A frame that is written, and what is read back (demand 2; 01 "The wire image", "What the listener does at each sample").
-use Prim.Native.Nat.{ℕ, _+_, _-_, _<_}
+use Prim.Native.Nat.{ℕ, _+_, _-_, _^_, _<_}
 use mathlib.Core.Path.{_≡_}
 use mathlib.Core.Bool.{false, cond}
 use mathlib.Core.List.{List}
@@ -7,7 +7,7 @@ use lib.Dec.{eqb}
 use lib.ListN.{length, getD}
 use Rattle.wire.specs.declared.frames.Frame.{Frame}
 use Rattle.wire.specs.declared.frames.Received.{Received}
-use Rattle.wire.specs.Numbers.{room, idle}
+use Rattle.wire.specs.Numbers.{room, byteWidth, idle}
 use Rattle.wire.specs.Fields.{trimmed}
 use Rattle.listener.specs.declared.listeners.Listener.{Listener}
 use Rattle.listener.specs.declared.answers.Answer.the-variants.{Handed}
@@ -29,7 +29,7 @@ readAs f =
 -- what the code's type of a frame says of its data: an array of eight bytes
 pub record EightBytes (f : Frame) : Type 0 where
   pub size : length (f .bytes) ≡ room
-  pub byte : (i : ℕ) → getD (f .bytes) i 0 < 256
+  pub byte : (i : ℕ) → getD (f .bytes) i 0 < 2 ^ byteWidth
 
 -- WRITTEN INTO A CAPTURE, AND LISTENED TO FROM READY
 

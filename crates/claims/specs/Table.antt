@@ -7,7 +7,7 @@ use mathlib.Core.List.{List, [], _∷_, _++_}
 use lib.Dec.{eqb, leb, ltb}
 use lib.ListN.{length, replicate, drop}
 use Rattle.wire.specs.declared.frames.Received.{Received}
-use Rattle.wire.specs.Numbers.{five, idle, room}
+use Rattle.wire.specs.Numbers.{room, five, endOfFrameBits, idle, handOutBit, intermissionBits}
 use Rattle.wire.specs.Crc.{crc}
 use Rattle.wire.specs.Stuffing.{none, ranFrom}
 use Rattle.wire.specs.Unstuffing.{unstuffFrom}
@@ -102,17 +102,17 @@ row h (ackDelimiter g a) b = cond (eqb b 0) (trouble formError) (cond (checks g)
 -- end of frame, bits 1 to 6 | 0 | form error, waiting; bit 6 | 1 | the frame is handed out; bit 7 | 0 | overload, waiting
 row h (endOfFrame k g a) b =
     cond (eqb b 0)
-    (cond (ltb k 7) (trouble formError) (trouble overload))
-    (cond (ltb k 6)
+    (cond (ltb k endOfFrameBits) (trouble formError) (trouble overload))
+    (cond (ltb k handOutBit)
     (silent (endOfFrame (k + 1) g a))
-    (cond (eqb k 6)
-    (record { says = handed (receivedFrom g a); goes = endOfFrame 7 g a })
+    (cond (eqb k handOutBit)
+    (record { says = handed (receivedFrom g a); goes = endOfFrame endOfFrameBits g a })
     (silent (intermission 1))))
 -- intermission bits 1 and 2 | 0 | overload, waiting; bit 3 | 0 | nothing: it is a start of frame; 1 | nothing: ready
 row h (intermission k) b =
     cond (eqb b 0)
-    (cond (ltb k 3) (trouble overload) (silent (stuffed (0 ∷ []))))
-    (cond (ltb k 3) (silent (intermission (k + 1))) (silent ready))
+    (cond (ltb k intermissionBits) (trouble overload) (silent (stuffed (0 ∷ []))))
+    (cond (ltb k intermissionBits) (silent (intermission (k + 1))) (silent ready))
 
 -- over samples that come behind those in h
 abbrev pub whereFrom : List ℕ → Where → List ℕ → Where

@@ -4,12 +4,16 @@ use lib.Dec.{leb, eqb}
 use Rattle.ledger.specs.declared.ledger.Ledger.{Ledger}
 use Rattle.ledger.specs.declared.ledger.Ledgered.{Ledgered}
 use Rattle.ledger.specs.declared.event.Event.{Event}
+use Rattle.ledger.specs.Numbers.{receiveHeld, mostTransmit, mostGroups}
 use Rattle.ledger.specs.Rules.{isOff, next}
 
 -- the ranges: transmit count 0 to 263, receive count 0 to 255, recovery groups 0 to 127, and 0 unless bus-off
 unfoldable pub inRange : Ledger → Bool
 inRange l =
-    leb (l .transmit .0) 263 && leb (l .receive .0) 255 && leb (l .groups) 127 && (isOff l || eqb (l .groups) 0)
+    leb (l .transmit .0) mostTransmit
+    && leb (l .receive .0) receiveHeld
+    && leb (l .groups) mostGroups
+    && (isOff l || eqb (l .groups) 0)
 
 -- not refused, with the next ledger
 abbrev pub accepted : Ledger → Ledgered

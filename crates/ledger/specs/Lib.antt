@@ -1,4 +1,5 @@
 pub mod Cases
+pub mod Numbers
 pub mod Rules
 pub mod RulesLaws
 pub mod Answer

@@ -8,6 +8,7 @@ use Rattle.ledger.specs.declared.state.State.{State}
 use Rattle.ledger.specs.declared.state.State.the-variants.{Active, Passive, BusOff}
 use Rattle.ledger.specs.declared.event.Event.{Event}
 use Rattle.ledger.specs.declared.event.Event.the-variants.{ErrorSeen, DominantAfterFlag, FlagErrorAsTransmitter, FlagErrorAsReceiver, ErrorFlagSent, AcknowledgeError, StuffBitOverwritten, SentWell, ReceivedWell, ElevenRecessive}
+use Rattle.ledger.specs.Numbers.{raise, passiveAbove, offAbove, receiveHeld, receivedDownTo, mostGroups}
 
 -- T, the transmit count, and R, the receive count
 pub record Counts : Type 0 where
@@ -19,32 +20,32 @@ counts t r = record { T = t; R = r }
 
 -- R is held at 255 (house choice)
 abbrev pub held : ℕ → ℕ
-held r = min r 255
+held r = min r receiveHeld
 
 -- T or R above 127: passive, where the station is not bus-off
 abbrev pub isPassive : ℕ → ℕ → Bool
-isPassive t r = ltb 127 t || ltb 127 r
+isPassive t r = ltb passiveAbove t || ltb passiveAbove r
 
 -- T after an acknowledge error
 abbrev pub unacknowledged : ℕ → ℕ → ℕ
-unacknowledged t r = cond (isPassive t r) t (t + 8)
+unacknowledged t r = cond (isPassive t r) t (t + raise)
 
 -- R after a good reception; 127 is a house choice inside the standard's 119 to 127
 abbrev pub received : ℕ → ℕ
-received r = cond (ltb 127 r) 127 (r - 1)
+received r = cond (ltb receivedDownTo r) receivedDownTo (r - 1)
 
 -- 01's list: what each event makes of T and R where the station is not bus-off (numbers from 0 up, so 0 - 1 is 0)
 unfoldable pub change : Event → ℕ → ℕ → Counts
 -- error seen as receiver: R + 1
 change ErrorSeen t r = counts t (held (r + 1))
 -- dominant first bit after own error flag, as receiver: R + 8
-change DominantAfterFlag t r = counts t (held (r + 8))
+change DominantAfterFlag t r = counts t (held (r + raise))
 -- bit error in own active error or overload flag, or each further run of too many dominant bits after a flag: T + 8 as transmitter,
-change FlagErrorAsTransmitter t r = counts (t + 8) r
+change FlagErrorAsTransmitter t r = counts (t + raise) r
 -- R + 8 as receiver
-change FlagErrorAsReceiver t r = counts t (held (r + 8))
+change FlagErrorAsReceiver t r = counts t (held (r + raise))
 -- error flag sent as transmitter: T + 8
-change ErrorFlagSent t r = counts (t + 8) r
+change ErrorFlagSent t r = counts (t + raise) r
 -- acknowledge error with no dominant bit seen in the own flag: T unchanged if the station was passive before, else T + 8
 change AcknowledgeError t r = counts (unacknowledged t r) r
 -- recessive stuff bit overwritten during arbitration: T unchanged
@@ -66,7 +67,7 @@ new = ledger 0 0 0
 
 -- bus-off: T above 255
 abbrev pub isOff : Ledger → Bool
-isOff l = ltb 255 (l .transmit .0)
+isOff l = ltb offAbove (l .transmit .0)
 
 -- eleven recessive bits seen
 abbrev pub isGroup : Event → Bool
@@ -83,7 +84,7 @@ isGroup ElevenRecessive = true
 
 -- a recessive group when bus-off: the 128th sets T, R and the groups to 0
 abbrev pub grouped : Ledger → Ledger
-grouped l = cond (ltb (l .groups) 127) (ledger (l .transmit .0) (l .receive .0) (l .groups + 1)) new
+grouped l = cond (ltb (l .groups) mostGroups) (ledger (l .transmit .0) (l .receive .0) (l .groups + 1)) new
 
 -- when bus-off only recessive groups count and every other event changes nothing
 unfoldable pub waiting : Event → Ledger → Ledger

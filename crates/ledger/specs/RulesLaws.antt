@@ -7,31 +7,32 @@ use borrow.Author.Tests.{lt-ltb, le-ltb}
 use Rattle.ledger.specs.declared.ledger.Ledger.{Ledger}
 use Rattle.ledger.specs.declared.event.Event.{Event}
 use Rattle.ledger.specs.declared.event.Event.the-variants.{ErrorSeen, DominantAfterFlag, FlagErrorAsTransmitter, FlagErrorAsReceiver, ErrorFlagSent, AcknowledgeError, StuffBitOverwritten, SentWell, ReceivedWell, ElevenRecessive}
+use Rattle.ledger.specs.Numbers.{offAbove, receiveHeld, receivedDownTo, mostTransmit}
 use Rattle.ledger.specs.Cases.{cond-either}
 use Rattle.ledger.specs.Rules.{isPassive, change, waiting, counting, next}
 
 -- bus-off or not
 
 module _ (e : Event) (l : Ledger) where
-  pub next-on : l .transmit .0 ≤ 255 → next e l ≡ counting e l
+  pub next-on : l .transmit .0 ≤ offAbove → next e l ≡ counting e l
   unfolding next
-  next-on h = simp (le-ltb 255 _ h)
+  next-on h = simp (le-ltb offAbove _ h)
 
-  pub next-off : 255 < l .transmit .0 → next e l ≡ waiting e l
+  pub next-off : offAbove < l .transmit .0 → next e l ≡ waiting e l
   unfolding next
-  next-off h = simp (lt-ltb 255 _ h)
+  next-off h = simp (lt-ltb offAbove _ h)
 
 -- the counts after one event
 
-pub change-le : (e : Event) (t r : ℕ) → t ≤ 255 → r ≤ 255 → (change e t r .T ≤ 263) × (change e t r .R ≤ 255)
+pub change-le : (e : Event) (t r : ℕ) → t ≤ offAbove → r ≤ receiveHeld → (change e t r .T ≤ mostTransmit) × (change e t r .R ≤ receiveHeld)
 unfolding change
 change-le ErrorSeen t r p q = omega arith
 change-le DominantAfterFlag t r p q = omega arith
 change-le FlagErrorAsTransmitter t r p q = omega arith
 change-le FlagErrorAsReceiver t r p q = omega arith
 change-le ErrorFlagSent t r p q = omega arith
-change-le AcknowledgeError t r p q = (cond-either (λ n. n ≤ 263) (isPassive t r) (omega arith) (omega arith), q)
+change-le AcknowledgeError t r p q = (cond-either (λ n. n ≤ mostTransmit) (isPassive t r) (omega arith) (omega arith), q)
 change-le StuffBitOverwritten t r p q = omega arith
 change-le SentWell t r p q = omega arith
-change-le ReceivedWell t r p q = (omega arith, cond-either (λ n. n ≤ 255) (ltb 127 r) (omega arith) (omega arith))
+change-le ReceivedWell t r p q = (omega arith, cond-either (λ n. n ≤ receiveHeld) (ltb receivedDownTo r) (omega arith) (omega arith))
 change-le ElevenRecessive t r p q = omega arith

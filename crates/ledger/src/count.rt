@@ -1,6 +1,7 @@
 // The two error counts, each its own type, and how one event moves them.
 ghost use mathlib.Core.Path.{_≡_};
 ghost use Prim.Native.Nat.{_+_, _-_, _≤_};
+ghost use Rattle.ledger.specs.Numbers.{raise, offAbove, receiveHeld};
 ghost use Rattle.ledger.specs.Rules.{held, isPassive, unacknowledged, received};
 
 // The transmit error count, T.
@@ -19,8 +20,8 @@ pub(crate) fn is_passive(t: TransmitCount, r: ReceiveCount) -> bool
 impl TransmitCount {
     // T + 8.
     pub(crate) fn raised(self) -> TransmitCount
-        requires { ⌜ self .0 ≤ 255 ⌝ }
-        ensures { λ r. ⌜ r .0 ≡ self .0 + 8 ⌝ }
+        requires { ⌜ self .0 ≤ offAbove ⌝ }
+        ensures { λ r. ⌜ r .0 ≡ self .0 + raise ⌝ }
     {
         TransmitCount(self.0 + 8)
     }
@@ -38,7 +39,7 @@ impl TransmitCount {
 
     // Unchanged if the station was passive before, else T + 8.
     pub(crate) fn unacknowledged(self, receive: ReceiveCount) -> TransmitCount
-        requires { ⌜ self .0 ≤ 255 ⌝ }
+        requires { ⌜ self .0 ≤ offAbove ⌝ }
         ensures { λ r. ⌜ r .0 ≡ unacknowledged (self .0) (receive .0) ⌝ }
     {
         if is_passive(self, receive) {
@@ -51,8 +52,8 @@ impl TransmitCount {
 impl ReceiveCount {
     // R + `by`, held at 255.
     pub(crate) fn raised(self, by: u16) -> ReceiveCount
-        requires { ⌜ self .0 ≤ 255 ⌝ }
-        requires { ⌜ by ≤ 8 ⌝ }
+        requires { ⌜ self .0 ≤ receiveHeld ⌝ }
+        requires { ⌜ by ≤ raise ⌝ }
         ensures { λ r. ⌜ r .0 ≡ held (self .0 + by) ⌝ }
     {
         let r = self.0 + by;

@@ -2,6 +2,7 @@
 ghost use mathlib.Core.Path.{_≡_};
 ghost use mathlib.Core.Bool.{true};
 ghost use Prim.Native.Nat.{_≤_};
+ghost use Rattle.ledger.specs.Numbers.{offAbove, receiveHeld};
 ghost use Rattle.ledger.specs.Rules.{grouped, waiting, counting, next};
 ghost use Rattle.ledger.specs.Answer.{inRange};
 use crate::event::Event;
@@ -32,8 +33,8 @@ impl Ledger {
 
     // Any event when not bus-off.
     fn counting(mut self, e: Event) -> Ledger
-        requires { ⌜ self .transmit .0 ≤ 255 ⌝ }
-        requires { ⌜ self .receive .0 ≤ 255 ⌝ }
+        requires { ⌜ self .transmit .0 ≤ offAbove ⌝ }
+        requires { ⌜ self .receive .0 ≤ receiveHeld ⌝ }
         ensures { λ r. ⌜ r ≡ counting e self ⌝ }
     {
         let t = self.transmit;

@@ -2,7 +2,7 @@
 use Prim.Native.Nat.{ℕ}
 use mathlib.Core.Bool.{cond}
 use Rattle.wire.specs.declared.runs.Run.{Run}
-use Rattle.wire.specs.Numbers.{crcWidth, crcGenerator, crcStart}
+use Rattle.wire.specs.Numbers.{crcWidth, crcGenerator, crcStart, endOfFrameBits}
 use Rattle.wire.specs.Crc.{crcStep}
 use Rattle.wire.specs.Stuffing.{ran}
 use Rattle.wire.specs.Unstuffing.{sampledAs}
@@ -85,7 +85,7 @@ moved f Begin b q = told nothing Stuffed q newFrame
 moved f Take b q = takeMove f b q
 moved f Skip b q = told nothing Stuffed q (skipped f b)
 moved f Slot b q = told nothing AckDelimiter q (slotted f b)
-moved f HandOut b q = told Whole (EndOfFrame 7) q f
+moved f HandOut b q = told Whole (EndOfFrame endOfFrameBits) q f
 moved f (Fail x) b q = told (Failed x) Waiting q f
 
 -- one sample

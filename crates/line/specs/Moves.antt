@@ -4,7 +4,7 @@ use mathlib.Core.Bool.{Bool, cond}
 use lib.Dec.{eqb, ltb}
 use Rattle.wire.specs.declared.runs.Sampled.{Sampled}
 use Rattle.wire.specs.declared.runs.Sampled.the-variants.{FrameBit, StuffBit, SixthEqual}
-use Rattle.wire.specs.Numbers.{idle}
+use Rattle.wire.specs.Numbers.{idle, endOfFrameBits, handOutBit, intermissionBits}
 use Rattle.line.specs.declared.places.Place.the-variants.{Waiting, Ready, AckSlot, EndOfFrame, Intermission}
 use Rattle.line.specs.declared.places.Fault.the-variants.{StuffError, FormError, CrcError, Overload}
 use Rattle.line.specs.declared.moves.Move.{Move}
@@ -40,11 +40,11 @@ whenAckDelimiter b sum crc = cond (eqb b 0) (Fail FormError) (cond (eqb sum crc)
 abbrev pub whenEndOfFrame : ℕ → ℕ → Move
 whenEndOfFrame k b =
     cond (eqb b 0)
-    (cond (ltb k 7) (Fail FormError) (Fail Overload))
-    (cond (ltb k 6) (Go (EndOfFrame (k + 1))) (cond (eqb k 6) HandOut (Go (Intermission 1))))
+    (cond (ltb k endOfFrameBits) (Fail FormError) (Fail Overload))
+    (cond (ltb k handOutBit) (Go (EndOfFrame (k + 1))) (cond (eqb k handOutBit) HandOut (Go (Intermission 1))))
 
 abbrev pub whenIntermission : ℕ → ℕ → Move
 whenIntermission k b =
     cond (eqb b 0)
-    (cond (ltb k 3) (Fail Overload) Begin)
-    (cond (ltb k 3) (Go (Intermission (k + 1))) (Go Ready))
+    (cond (ltb k intermissionBits) (Fail Overload) Begin)
+    (cond (ltb k intermissionBits) (Go (Intermission (k + 1))) (Go Ready))

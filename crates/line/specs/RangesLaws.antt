@@ -8,7 +8,7 @@ use borrow.Author.Tests.{ltb-true, lt-ltb}
 use Rattle.wire.specs.declared.runs.Run.{Run}
 use Rattle.wire.specs.declared.runs.Sampled.{Sampled}
 use Rattle.wire.specs.declared.runs.Sampled.the-variants.{FrameBit, StuffBit, SixthEqual}
-use Rattle.wire.specs.Numbers.{five, idle, crcWidth, crcGenerator}
+use Rattle.wire.specs.Numbers.{five, crcWidth, crcGenerator, endOfFrameBits, idle, handOutBit, intermissionBits}
 use Rattle.wire.specs.Crc.{crcStep}
 use Rattle.wire.specs.CrcLaws.{crc-step-lt}
 use Rattle.wire.specs.Stuffing.{ran}
@@ -49,7 +49,7 @@ ran-fits : (u : Run) (b : ℕ) → b < 2 → runFits (ran u b) ≡ true
 ran-fits u b h = go (eqb b (u .last)) (ltb (u .len) five) refl
   where
     go : (t s : Bool) → ltb (u .len) five ≡ s → runFits (record { last = b; len = cond t (cond s (u .len + 1) five) 1 }) ≡ true
-    go true true e = rw (lt-ltb b 2 h, lt-ltb 0 (u .len + 1) (omega arith), lt-ltb (u .len + 1) 6 (omega (arith, ltb-true (u .len) five e)))
+    go true true e = rw (lt-ltb b 2 h, lt-ltb 0 (u .len + 1) (omega arith), lt-ltb (u .len + 1) (five + 1) (omega (arith, ltb-true (u .len) five e)))
     go true false e = rw (lt-ltb b 2 h)
     go false s e = rw (lt-ltb b 2 h)
 
@@ -72,10 +72,10 @@ new-in = frame-in newFrame refl
 
 -- MOVES
 
-pub quiet-lt : (q b : ℕ) → quietAfter q b < 12
+pub quiet-lt : (q b : ℕ) → quietAfter q b < idle + 1
 quiet-lt q b = go (eqb b 0) (ltb q idle) refl
   where
-    go : (t s : Bool) → ltb q idle ≡ s → cond t 0 (cond s (q + 1) idle) < 12
+    go : (t s : Bool) → ltb q idle ≡ s → cond t 0 (cond s (q + 1) idle) < idle + 1
     go true s e = lit< tt
     go false true e = omega (arith, ltb-true q idle e)
     go false false e = lit< tt
@@ -100,19 +100,19 @@ stuffed-fits StuffBit done b = tt
 stuffed-fits SixthEqual done b = tt
 
 end-fits : (k b : ℕ) → MoveFits (whenEndOfFrame k b)
-end-fits k b = go (eqb b 0) (ltb k 6) refl
+end-fits k b = go (eqb b 0) (ltb k handOutBit) refl
   where
-    go : (t s : Bool) → ltb k 6 ≡ s → MoveFits (cond t (cond (ltb k 7) (Fail FormError) (Fail Overload)) (cond s (Go (EndOfFrame (k + 1))) (cond (eqb k 6) HandOut (Go (Intermission 1)))))
-    go true s e = either (ltb k 7) (Fail FormError) (Fail Overload) tt tt
-    go false true e = and-true (lt-ltb 0 (k + 1) (omega arith)) (lt-ltb (k + 1) 8 (omega (arith, ltb-true k 6 e)))
-    go false false e = either (eqb k 6) HandOut (Go (Intermission 1)) tt refl
+    go : (t s : Bool) → ltb k handOutBit ≡ s → MoveFits (cond t (cond (ltb k endOfFrameBits) (Fail FormError) (Fail Overload)) (cond s (Go (EndOfFrame (k + 1))) (cond (eqb k handOutBit) HandOut (Go (Intermission 1)))))
+    go true s e = either (ltb k endOfFrameBits) (Fail FormError) (Fail Overload) tt tt
+    go false true e = and-true (lt-ltb 0 (k + 1) (omega arith)) (lt-ltb (k + 1) (endOfFrameBits + 1) (omega (arith, ltb-true k handOutBit e)))
+    go false false e = either (eqb k handOutBit) HandOut (Go (Intermission 1)) tt refl
 
 intermission-fits : (k b : ℕ) → MoveFits (whenIntermission k b)
-intermission-fits k b = go (eqb b 0) (ltb k 3) refl
+intermission-fits k b = go (eqb b 0) (ltb k intermissionBits) refl
   where
-    go : (t s : Bool) → ltb k 3 ≡ s → MoveFits (cond t (cond s (Fail Overload) Begin) (cond s (Go (Intermission (k + 1))) (Go Ready)))
+    go : (t s : Bool) → ltb k intermissionBits ≡ s → MoveFits (cond t (cond s (Fail Overload) Begin) (cond s (Go (Intermission (k + 1))) (Go Ready)))
     go true s e = either s (Fail Overload) Begin tt tt
-    go false true e = and-true (lt-ltb 0 (k + 1) (omega arith)) (lt-ltb (k + 1) 4 (omega (arith, ltb-true k 3 e)))
+    go false true e = and-true (lt-ltb 0 (k + 1) (omega arith)) (lt-ltb (k + 1) (intermissionBits + 1) (omega (arith, ltb-true k intermissionBits e)))
     go false false e = refl
 
 move-fits : (p : Place) (f : InFrame) (b q : ℕ) → MoveFits (moveAt p f b q)
@@ -128,16 +128,16 @@ move-fits (Intermission k) f b q = intermission-fits k b
 
 -- THE CORE
 
-core-fits : (p : Place) (q : ℕ) (f : InFrame) → q < 12 → placeFits p ≡ true → FrameIn f → coreFits (at p q f) ≡ true
-core-fits p q f h e i = and-true (and-true (lt-ltb q 12 h) e) (in-frame f i)
+core-fits : (p : Place) (q : ℕ) (f : InFrame) → q < idle + 1 → placeFits p ≡ true → FrameIn f → coreFits (at p q f) ≡ true
+core-fits p q f h e i = and-true (and-true (lt-ltb q (idle + 1) h) e) (in-frame f i)
 
-moved-fits : (f : InFrame) (m : Move) (b q : ℕ) → b < 2 → q < 12 → FrameIn f → MoveFits m → coreFits (moved f m b q .core) ≡ true
+moved-fits : (f : InFrame) (m : Move) (b q : ℕ) → b < 2 → q < idle + 1 → FrameIn f → MoveFits m → coreFits (moved f m b q .core) ≡ true
 moved-fits f (Go p) b q bit h i e = core-fits p q f h e i
 moved-fits f Begin b q bit h i e = core-fits Stuffed q newFrame h refl new-in
 moved-fits f Take b q bit h i e = core-fits Stuffed q (taken f b) h refl (taken-in f b bit i)
 moved-fits f Skip b q bit h i e = core-fits Stuffed q (skipped f b) h refl (skipped-in f b bit i)
 moved-fits f Slot b q bit h i e = core-fits AckDelimiter q (slotted f b) h refl (slotted-in f b bit i)
-moved-fits f HandOut b q bit h i e = core-fits (EndOfFrame 7) q f h refl i
+moved-fits f HandOut b q bit h i e = core-fits (EndOfFrame endOfFrameBits) q f h refl i
 moved-fits f (Fail x) b q bit h i e = core-fits Waiting q f h refl i
 
 pub fits-new : coreFits newCore ≡ true
@@ -148,5 +148,5 @@ pub fits-step : (c : Core) (b : ℕ) → coreFits c ≡ true → b < 2 → coreF
 fits-step c b e bit =
     let q = quietAfter (c .quiet) b in
     moved-fits (c .frame) (moveAt (c .place) (c .frame) b q) b q bit (quiet-lt (c .quiet) b)
-    (frame-in (c .frame) (true-and (ltb (c .quiet) 12 && placeFits (c .place)) (frameFits (c .frame)) e .1))
+    (frame-in (c .frame) (true-and (ltb (c .quiet) (idle + 1) && placeFits (c .place)) (frameFits (c .frame)) e .1))
     (move-fits (c .place) (c .frame) b q)

@@ -1,8 +1,8 @@
 -- The ranges of the reader's numbers (docs/RANGES.md).
-use Prim.Native.Nat.{_^_}
+use Prim.Native.Nat.{_+_, _^_}
 use mathlib.Core.Bool.{Bool, true, _&&_}
 use lib.Dec.{ltb}
-use Rattle.wire.specs.Numbers.{baseIds, codes, crcWidth, room}
+use Rattle.wire.specs.Numbers.{room, baseWidth, lowerWidth, codeWidth, crcWidth}
 use Rattle.reader.specs.declared.fields.Field.{Field}
 use Rattle.reader.specs.declared.fields.Field.the-variants.{Upper, Srr, Ide, Lower, Rtr, R1, R0, Code, Data, Crc, Done}
 use Rattle.reader.specs.declared.registers.Registers.{Registers}
@@ -10,14 +10,14 @@ use Rattle.reader.specs.declared.readers.Reader.{Reader}
 
 abbrev pub registersFit : Registers → Bool
 registersFit g =
-    ltb (g .upper) baseIds
+    ltb (g .upper) (2 ^ baseWidth)
     && ltb (g .srr) 2
     && ltb (g .ide) 2
-    && ltb (g .lower) (2 ^ 18)
+    && ltb (g .lower) (2 ^ lowerWidth)
     && ltb (g .rtr) 2
     && ltb (g .r1) 2
     && ltb (g .r0) 2
-    && ltb (g .code) codes
+    && ltb (g .code) (2 ^ codeWidth)
     && ltb (g .crc) (2 ^ crcWidth)
 
 abbrev pub fieldFits : Field → Bool
@@ -33,6 +33,6 @@ fieldFits (Data i) = ltb i room
 fieldFits Crc = true
 fieldFits Done = true
 
--- no field has more than 18 bits
+-- no field has more bits than the lower part of an extended identifier
 abbrev pub readerFits : Reader → Bool
-readerFits r = fieldFits (r .field) && ltb (r .left) 19 && ltb (r .value) (2 ^ 18) && registersFit (r .registers)
+readerFits r = fieldFits (r .field) && ltb (r .left) (lowerWidth + 1) && ltb (r .value) (2 ^ lowerWidth) && registersFit (r .registers)

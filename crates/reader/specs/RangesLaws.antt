@@ -5,7 +5,7 @@ use mathlib.Core.Bool.{Bool, true, false, cond, _&&_, false≢true}
 use native.Mathlib.Omega.{arith}
 use lib.Dec.{eqb, ltb, lit<, lit≤}
 use borrow.Author.Tests.{ltb-true, lt-ltb}
-use Rattle.wire.specs.Numbers.{baseIds, codes, crcWidth, room}
+use Rattle.wire.specs.Numbers.{room, baseWidth, lowerWidth, codeWidth, crcWidth}
 use Rattle.wire.specs.Fields.{carried}
 use Rattle.reader.specs.declared.fields.Field.{Field}
 use Rattle.reader.specs.declared.fields.Field.the-variants.{Upper, Srr, Ide, Lower, Rtr, R1, R0, Code, Data, Crc, Done}
@@ -26,14 +26,14 @@ true-and false b e = absurd (false≢true e)
 -- REGISTERS
 
 pub record RegistersIn (g : Registers) : Type 0 where
-  pub upper : g .upper < baseIds
+  pub upper : g .upper < 2 ^ baseWidth
   pub srr : g .srr < 2
   pub ide : g .ide < 2
-  pub lower : g .lower < 2 ^ 18
+  pub lower : g .lower < 2 ^ lowerWidth
   pub rtr : g .rtr < 2
   pub r1 : g .r1 < 2
   pub r0 : g .r0 < 2
-  pub code : g .code < codes
+  pub code : g .code < 2 ^ codeWidth
   pub crc : g .crc < 2 ^ crcWidth
 
 pub registers-in : (g : Registers) → registersFit g ≡ true → RegistersIn g
@@ -130,7 +130,7 @@ next-fits g Done = refl
 pub record ReaderIn (r : Reader) : Type 0 where
   pub field : fieldFits (r .field) ≡ true
   pub left : r .left < 19
-  pub value : r .value < 2 ^ 18
+  pub value : r .value < 2 ^ lowerWidth
   pub registers : RegistersIn (r .registers)
 
 pub reader-in : (r : Reader) → readerFits r ≡ true → ReaderIn r

@@ -6,8 +6,8 @@ use lib.Dec.{eqb, ltb}
 use Rattle.wire.specs.declared.idents.Ident.{Ident}
 use Rattle.wire.specs.declared.idents.Ident.the-variants.{Base, Extended}
 use Rattle.wire.specs.declared.frames.Frame.{Frame}
-use Rattle.wire.specs.Numbers.{codes, crcWidth, room}
-use Rattle.wire.specs.Fields.{carried, trimmed}
+use Rattle.wire.specs.Numbers.{room, srrNoted, r1Noted, r0Noted, baseWidth, lowerWidth, codeWidth, byteWidth, crcWidth}
+use Rattle.wire.specs.Fields.{joined, carried, trimmed}
 use Rattle.reader.specs.declared.fields.Field.{Field}
 use Rattle.reader.specs.declared.fields.Field.the-variants.{Upper, Srr, Ide, Lower, Rtr, R1, R0, Code, Data, Crc, Done}
 use Rattle.reader.specs.declared.registers.Registers.{Registers}
@@ -19,15 +19,15 @@ use Rattle.reader.specs.declared.readers.Took.{Took}
 -- FIELDS
 
 abbrev pub widthOf : Field → ℕ
-widthOf Upper = 11
+widthOf Upper = baseWidth
 widthOf Srr = 1
 widthOf Ide = 1
-widthOf Lower = 18
+widthOf Lower = lowerWidth
 widthOf Rtr = 1
 widthOf R1 = 1
 widthOf R0 = 1
-widthOf Code = 4
-widthOf (Data i) = 8
+widthOf Code = codeWidth
+widthOf (Data i) = byteWidth
 widthOf Crc = crcWidth
 widthOf Done = 0
 
@@ -70,8 +70,8 @@ remoteOf g = cond (eqb (g .ide) 0) (eqb (g .srr) 1) (eqb (g .rtr) 1)
 abbrev pub identOf : Registers → Ident
 identOf g =
     cond (eqb (g .ide) 0)
-    (Base (record { 0 = g .upper % 2 ^ 11 }))
-    (Extended (record { 0 = g .upper % 2 ^ 11 * 2 ^ 18 + g .lower % 2 ^ 18 }))
+    (Base (record { 0 = g .upper % 2 ^ baseWidth }))
+    (Extended (record { 0 = joined (g .upper % 2 ^ baseWidth) (g .lower % 2 ^ lowerWidth) }))
 
 -- THE NOTED BITS: 4 if SRR came dominant, 2 if r1 came recessive, 1 if r0 came recessive; a base frame has no SRR and no r1
 abbrev pub noteOf : ℕ → ℕ → ℕ → ℕ
@@ -80,8 +80,8 @@ noteOf b noted weight = cond (eqb b noted) weight 0
 abbrev pub notedOf : Registers → ℕ
 notedOf g =
     cond (eqb (g .ide) 0)
-    (noteOf (g .r0) 1 1)
-    (noteOf (g .srr) 0 4 + noteOf (g .r1) 1 2 + noteOf (g .r0) 1 1)
+    (noteOf (g .r0) 1 r0Noted)
+    (noteOf (g .srr) 0 srrNoted + noteOf (g .r1) 1 r1Noted + noteOf (g .r0) 1 r0Noted)
 
 -- how many data bytes follow the length code
 abbrev pub bytesToCome : Registers → ℕ
@@ -93,21 +93,21 @@ frameOf g bytes =
     record {
       ident = identOf g;
       remote = remoteOf g;
-      code = g .code % codes;
+      code = g .code % 2 ^ codeWidth;
       count = bytesToCome g;
       bytes = trimmed (bytesToCome g) bytes;
     }
 
 -- a whole field is kept, so many bits of it as it has; a data byte is not kept here
 abbrev pub putOf : Registers → Field → ℕ → Registers
-putOf g Upper v = record { upper = v % 2 ^ 11; srr = g .srr; ide = g .ide; lower = g .lower; rtr = g .rtr; r1 = g .r1; r0 = g .r0; code = g .code; crc = g .crc }
+putOf g Upper v = record { upper = v % 2 ^ baseWidth; srr = g .srr; ide = g .ide; lower = g .lower; rtr = g .rtr; r1 = g .r1; r0 = g .r0; code = g .code; crc = g .crc }
 putOf g Srr v = record { upper = g .upper; srr = v % 2; ide = g .ide; lower = g .lower; rtr = g .rtr; r1 = g .r1; r0 = g .r0; code = g .code; crc = g .crc }
 putOf g Ide v = record { upper = g .upper; srr = g .srr; ide = v % 2; lower = g .lower; rtr = g .rtr; r1 = g .r1; r0 = g .r0; code = g .code; crc = g .crc }
-putOf g Lower v = record { upper = g .upper; srr = g .srr; ide = g .ide; lower = v % 2 ^ 18; rtr = g .rtr; r1 = g .r1; r0 = g .r0; code = g .code; crc = g .crc }
+putOf g Lower v = record { upper = g .upper; srr = g .srr; ide = g .ide; lower = v % 2 ^ lowerWidth; rtr = g .rtr; r1 = g .r1; r0 = g .r0; code = g .code; crc = g .crc }
 putOf g Rtr v = record { upper = g .upper; srr = g .srr; ide = g .ide; lower = g .lower; rtr = v % 2; r1 = g .r1; r0 = g .r0; code = g .code; crc = g .crc }
 putOf g R1 v = record { upper = g .upper; srr = g .srr; ide = g .ide; lower = g .lower; rtr = g .rtr; r1 = v % 2; r0 = g .r0; code = g .code; crc = g .crc }
 putOf g R0 v = record { upper = g .upper; srr = g .srr; ide = g .ide; lower = g .lower; rtr = g .rtr; r1 = g .r1; r0 = v % 2; code = g .code; crc = g .crc }
-putOf g Code v = record { upper = g .upper; srr = g .srr; ide = g .ide; lower = g .lower; rtr = g .rtr; r1 = g .r1; r0 = g .r0; code = v % 2 ^ 4; crc = g .crc }
+putOf g Code v = record { upper = g .upper; srr = g .srr; ide = g .ide; lower = g .lower; rtr = g .rtr; r1 = g .r1; r0 = g .r0; code = v % 2 ^ codeWidth; crc = g .crc }
 putOf g (Data i) v = g
 putOf g Crc v = record { upper = g .upper; srr = g .srr; ide = g .ide; lower = g .lower; rtr = g .rtr; r1 = g .r1; r0 = g .r0; code = g .code; crc = v % 2 ^ crcWidth }
 putOf g Done v = g
@@ -121,7 +121,7 @@ keptOf Rtr v = NoByte
 keptOf R1 v = NoByte
 keptOf R0 v = NoByte
 keptOf Code v = NoByte
-keptOf (Data i) v = Byte i (v % 2 ^ 8)
+keptOf (Data i) v = Byte i (v % 2 ^ byteWidth)
 keptOf Crc v = NoByte
 keptOf Done v = NoByte
 
@@ -160,9 +160,9 @@ begun g f = record { field = f; left = widthOf f; value = 0; registers = g }
 abbrev pub newReader : Reader
 newReader = begun newRegisters Upper
 
--- the bits of the field that came, with one more: no field has more than 18
+-- the bits of the field that came, with one more: no field has more than the lower part of an extended identifier
 abbrev pub shifted : ℕ → ℕ → ℕ
-shifted v b = v % 2 ^ 17 * 2 + b % 2
+shifted v b = v % 2 ^ (lowerWidth - 1) * 2 + b % 2
 
 -- the field goes on
 abbrev pub within : Reader → ℕ → Took

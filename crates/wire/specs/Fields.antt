@@ -1,5 +1,5 @@
 -- A frame's fields in order, each so many bits of a number (01 "The wire image"; 001 6.6.10.2 to 6.6.10.5).
-use Prim.Native.Nat.{ℕ, _-_, _/_, _%_, _^_}
+use Prim.Native.Nat.{ℕ, _+_, _-_, _*_, _/_, _%_, _^_}
 use mathlib.Core.Bool.{Bool, cond}
 use mathlib.Core.List.{List, [], _∷_, _++_}
 use lib.ListN.{take, replicate}
@@ -7,8 +7,8 @@ use lib.Dec.{ltb}
 use Rattle.wire.specs.declared.idents.Ident.{Ident}
 use Rattle.wire.specs.declared.idents.Ident.the-variants.{Base, Extended}
 use Rattle.wire.specs.declared.frames.Frame.{Frame}
-use Rattle.wire.specs.Numbers.{room}
-use Rattle.wire.specs.Bits.{bitAt, bits}
+use Rattle.wire.specs.Numbers.{room, srrNoted, r1Noted, r0Noted, baseWidth, lowerWidth, codeWidth, byteWidth}
+use Rattle.wire.specs.Bits.{bits}
 use Rattle.wire.specs.Stuffing.{Coding, dynamic, plain, Coded, all, opposite}
 
 -- a field: how its bits are coded, how many they are, and the number that they are bits of
@@ -34,14 +34,21 @@ coded [] = []
 coded (s ∷ ss) = all (s .how) (bits (s .width) (s .value)) ++ coded ss
 
 -- THE NOTED BITS, a sum: 4 if SRR came dominant, 2 if r1 came recessive, 1 if r0 came recessive
+abbrev pub notedSum : (srr r1 r0 : ℕ) → ℕ
+notedSum srr r1 r0 = opposite srr * srrNoted + r1 * r1Noted + r0 * r0Noted
+
+-- and each of the three by the sum
+abbrev noting : ℕ → ℕ → ℕ
+noting weight noted = noted / weight % 2
+
 abbrev pub srr : ℕ → ℕ
-srr noted = opposite (bitAt noted 2)
+srr noted = opposite (noting srrNoted noted)
 
 abbrev pub r1 : ℕ → ℕ
-r1 noted = bitAt noted 1
+r1 noted = noting r1Noted noted
 
 abbrev pub r0 : ℕ → ℕ
-r0 noted = bitAt noted 0
+r0 noted = noting r0Noted noted
 
 -- RTR is 0 for data, 1 for remote
 abbrev pub rtr : Bool → ℕ
@@ -49,24 +56,27 @@ rtr remote = cond remote 1 0
 
 -- the upper 11 bits of an extended identifier, and the lower 18
 abbrev pub upper : ℕ → ℕ
-upper i = i / 2 ^ 18
+upper i = i / 2 ^ lowerWidth
 
 abbrev pub lower : ℕ → ℕ
-lower i = i % 2 ^ 18
+lower i = i % 2 ^ lowerWidth
+
+abbrev pub joined : (upper lower : ℕ) → ℕ
+joined upper lower = upper * 2 ^ lowerWidth + lower
 
 -- behind the start of frame, to the length code
 abbrev pub header : Ident → Bool → ℕ → ℕ → List Span
 header (Base i) remote code noted =
-    field 11 (i .0) ∷ field 1 (rtr remote) ∷ field 1 0 ∷ field 1 (r0 noted) ∷ field 4 code ∷ []
+    field baseWidth (i .0) ∷ field 1 (rtr remote) ∷ field 1 0 ∷ field 1 (r0 noted) ∷ field codeWidth code ∷ []
 header (Extended i) remote code noted =
-    field 11 (upper (i .0))
+    field baseWidth (upper (i .0))
     ∷ field 1 (srr noted)
     ∷ field 1 1
-    ∷ field 18 (lower (i .0))
+    ∷ field lowerWidth (lower (i .0))
     ∷ field 1 (rtr remote)
     ∷ field 1 (r1 noted)
     ∷ field 1 (r0 noted)
-    ∷ field 4 code
+    ∷ field codeWidth code
     ∷ []
 
 -- a data frame carries as many bytes as the length code says, 8 for codes 9 to 15; a remote frame carries none
@@ -82,4 +92,4 @@ trimmed n bytes = take n bytes ++ replicate (room - n) 0
 
 abbrev pub dataFields : List ℕ → List Span
 dataFields [] = []
-dataFields (b ∷ bs) = field 8 b ∷ dataFields bs
+dataFields (b ∷ bs) = field byteWidth b ∷ dataFields bs

@@ -1,6 +1,6 @@
 -- The layout of frames and the fields of images are one: along any way stand the fields of what was read, which is in its ranges;
 -- and to whatever is in its ranges there is a way.
-use Prim.Native.Nat.{ℕ, zero, suc, _+_, _-_, _*_, _/_, _^_, _<_}
+use Prim.Native.Nat.{ℕ, zero, suc, _+_, _-_, _*_, _/_, _%_, _^_, _<_, _≤_}
 use mathlib.Core.Path.{_≡_, refl, sym, ap, _∙_}
 use mathlib.Core.Bool.{Bool, true, false, cond}
 use mathlib.Core.List.{List, [], _∷_, _++_, append-nil, append-assoc}
@@ -10,9 +10,8 @@ use lib.ListN.{length}
 use borrow.Author.Tests.{eqb-true, eqb-false}
 use Rattle.wire.specs.declared.idents.Ident.{Ident}
 use Rattle.wire.specs.declared.idents.Ident.the-variants.{Base, Extended}
-use Rattle.wire.specs.Numbers.{codes, crcWidth}
-use Rattle.wire.specs.Bits.{bitAt}
-use Rattle.wire.specs.Fields.{Span, field, rtr, r0, r1, srr, upper, lower, header, carried, dataFields}
+use Rattle.wire.specs.Numbers.{srrNoted, r1Noted, r0Noted, baseWidth, lowerWidth, codeWidth, byteWidth, crcWidth}
+use Rattle.wire.specs.Fields.{Span, field, notedSum, srr, r1, r0, rtr, upper, lower, joined, header, carried, dataFields}
 use Rattle.wire.specs.Legal.{IdentIn, NotedIn}
 use Rattle.wire.specs.Layout.{Layout, done, part, Way, end, along, Got, bytesOf, restOf, baseRest, extendedRest, frames}
 use Rattle.wire.specs.LayoutLaws.{Sized}
@@ -23,12 +22,12 @@ gotFields g = header (g .ident) (g .remote) (g .code) (g .noted) ++ (dataFields 
 
 abbrev pub AllBytes : List ℕ → Type 0
 AllBytes [] = Unit {0}
-AllBytes (b ∷ bs) = (b < 2 ^ 8) × AllBytes bs
+AllBytes (b ∷ bs) = (b < 2 ^ byteWidth) × AllBytes bs
 
 pub record GotIn (g : Got) : Type 0 where
   pub ident : IdentIn (g .ident)
   pub noted : NotedIn (g .ident) (g .noted)
-  pub code : g .code < codes
+  pub code : g .code < 2 ^ codeWidth
   pub size : length (g .bytes) ≡ carried (g .remote) (g .code)
   pub bytes : AllBytes (g .bytes)
   pub crc : g .crc < 2 ^ crcWidth
@@ -49,7 +48,7 @@ sized-frames = (lit< tt, λ (u : ℕ). (lit< tt, λ (s : ℕ). (lit< tt, λ (i :
     either : (u s : ℕ) (t : Bool) → Sized (cond t (baseRest u s) (extendedRest u s))
     either u s true = (lit< tt, λ (z : ℕ). sized-rest (Base (record { 0 = u })) (eqb s 1) z)
     either u s false =
-        (lit< tt, λ (l : ℕ). (lit< tt, λ (x : ℕ). (lit< tt, λ (y : ℕ). (lit< tt, λ (z : ℕ). sized-rest (Extended (record { 0 = u * 2 ^ 18 + l })) (eqb x 1) ((1 - s) * 4 + y * 2 + z)))))
+        (lit< tt, λ (l : ℕ). (lit< tt, λ (x : ℕ). (lit< tt, λ (y : ℕ). (lit< tt, λ (z : ℕ). sized-rest (Extended (record { 0 = joined u l })) (eqb x 1) (notedSum s y z)))))
 
 -- ALONG A WAY
 
@@ -70,27 +69,27 @@ tells-bytes zero k ss h y =
     (t .0, ap (λ (l : List Span). l ++ along (k []) y) (sym (append-nil ss)) ∙ t .1)
 tells-bytes (suc n) k ss h y =
     let b : ℕ = y .0 in
-    tells-next 8 b (bytesOf n (λ (bs : List ℕ). k (b ∷ bs))) ss (y .3)
-    (tells-bytes n (λ (bs : List ℕ). k (b ∷ bs)) (ss ++ (field 8 b ∷ [])) rest (y .3))
+    tells-next byteWidth b (bytesOf n (λ (bs : List ℕ). k (b ∷ bs))) ss (y .3)
+    (tells-bytes n (λ (bs : List ℕ). k (b ∷ bs)) (ss ++ (field byteWidth b ∷ [])) rest (y .3))
   where
-    rest : (cs : List ℕ) → length cs ≡ n → AllBytes cs → Tells (k (y .0 ∷ cs)) ((ss ++ (field 8 (y .0) ∷ [])) ++ dataFields cs)
+    rest : (cs : List ℕ) → length cs ≡ n → AllBytes cs → Tells (k (y .0 ∷ cs)) ((ss ++ (field byteWidth (y .0) ∷ [])) ++ dataFields cs)
     rest cs e q z =
         let t = h (y .0 ∷ cs) (ap suc e) (y .2, q) z in
-        (t .0, ap (λ (l : List Span). l ++ along (k (y .0 ∷ cs)) z) (append-assoc ss (field 8 (y .0) ∷ []) (dataFields cs)) ∙ t .1)
+        (t .0, ap (λ (l : List Span). l ++ along (k (y .0 ∷ cs)) z) (append-assoc ss (field byteWidth (y .0) ∷ []) (dataFields cs)) ∙ t .1)
 
 -- length code, data and CRC, behind a header without its length code
 module _ (i : Ident) (remote : Bool) (noted : ℕ) (hi : IdentIn i) (hn : NotedIn i noted) where
-  tells-rest : (ss : List Span) → ((c : ℕ) → ss ++ (field 4 c ∷ []) ≡ header i remote c noted) → Tells (restOf i remote noted) ss
+  tells-rest : (ss : List Span) → ((c : ℕ) → ss ++ (field codeWidth c ∷ []) ≡ header i remote c noted) → Tells (restOf i remote noted) ss
   tells-rest ss e y =
       let c : ℕ = y .0 in
       let k : List ℕ → Layout Got = λ (bs : List ℕ). part crcWidth (λ (x : ℕ). done (record { ident = i; remote = remote; code = c; bytes = bs; noted = noted; crc = x })) in
-      let rest : (cs : List ℕ) → length cs ≡ carried remote c → AllBytes cs → Tells (k cs) ((ss ++ (field 4 c ∷ [])) ++ dataFields cs) =
+      let rest : (cs : List ℕ) → length cs ≡ carried remote c → AllBytes cs → Tells (k cs) ((ss ++ (field codeWidth c ∷ [])) ++ dataFields cs) =
       λ (cs : List ℕ) (n : length cs ≡ carried remote c) (q : AllBytes cs) (z : Way (k cs)). (
         record { ident = hi; noted = hn; code = y .2; size = n; bytes = q; crc = z .2 },
-        append-assoc (ss ++ (field 4 c ∷ [])) (dataFields cs) (field crcWidth (z .0) ∷ [])
+        append-assoc (ss ++ (field codeWidth c ∷ [])) (dataFields cs) (field crcWidth (z .0) ∷ [])
             ∙ ap (λ (l : List Span). l ++ (dataFields cs ++ (field crcWidth (z .0) ∷ []))) (e c),
       ) in
-      tells-next 4 c (bytesOf (carried remote c) k) ss (y .3) (tells-bytes (carried remote c) k (ss ++ (field 4 c ∷ [])) rest (y .3))
+      tells-next codeWidth c (bytesOf (carried remote c) k) ss (y .3) (tells-bytes (carried remote c) k (ss ++ (field codeWidth c ∷ [])) rest (y .3))
 
 rtr-is : (v : ℕ) → v < 2 → rtr (eqb v 1) ≡ v
 rtr-is v h = go (eqb v 1) refl
@@ -99,35 +98,35 @@ rtr-is v h = go (eqb v 1) refl
     go true e = sym (eqb-true v 1 e)
     go false e = omega (arith, eqb-false v 1 e)
 
-tells-base : (id v : ℕ) → id < 2 ^ 11 → v < 2 → Tells (baseRest id v) (field 11 id ∷ field 1 v ∷ field 1 0 ∷ [])
+tells-base : (id v : ℕ) → id < 2 ^ baseWidth → v < 2 → Tells (baseRest id v) (field baseWidth id ∷ field 1 v ∷ field 1 0 ∷ [])
 tells-base id v hi hv y =
     let z : r0 (y .0) ≡ y .0 = omega (arith, y .2) in
-    tells-rest (Base (record { 0 = id })) (eqb v 1) (y .0) hi (y .2)
-    (field 11 id ∷ field 1 v ∷ field 1 0 ∷ field 1 (y .0) ∷ [])
+    tells-rest (Base (record { 0 = id })) (eqb v 1) (y .0) hi (omega (arith, y .2))
+    (field baseWidth id ∷ field 1 v ∷ field 1 0 ∷ field 1 (y .0) ∷ [])
     (λ (c : ℕ). rw (rtr-is v hv, z))
     (y .3)
 
 -- an extended frame's fields from its identifier and its noted bits
-extended-parts : (u s l x z : ℕ) → s < 2 → l < 2 ^ 18 → x < 2 → z < 2
-    → (upper (u * 2 ^ 18 + l) ≡ u) × (lower (u * 2 ^ 18 + l) ≡ l) × (srr ((1 - s) * 4 + x * 2 + z) ≡ s) × (r1 ((1 - s) * 4 + x * 2 + z) ≡ x) × (r0 ((1 - s) * 4 + x * 2 + z) ≡ z)
+extended-parts : (u s l x z : ℕ) → s < 2 → l < 2 ^ lowerWidth → x < 2 → z < 2
+    → (upper (joined u l) ≡ u) × (lower (joined u l) ≡ l) × (srr (notedSum s x z) ≡ s) × (r1 (notedSum s x z) ≡ x) × (r0 (notedSum s x z) ≡ z)
 extended-parts u s l x z hs hl hx hz = (omega arith, omega arith, omega arith, omega arith, omega arith)
 
-tells-extended : (u s : ℕ) → u < 2 ^ 11 → s < 2 → Tells (extendedRest u s) (field 11 u ∷ field 1 s ∷ field 1 1 ∷ [])
+tells-extended : (u s : ℕ) → u < 2 ^ baseWidth → s < 2 → Tells (extendedRest u s) (field baseWidth u ∷ field 1 s ∷ field 1 1 ∷ [])
 tells-extended u s hu hs y = go (y .0) (y .2) (y .3 .0) (y .3 .2) (y .3 .3 .0) (y .3 .3 .2) (y .3 .3 .3 .0) (y .3 .3 .3 .2) (y .3 .3 .3 .3)
   where
-    go : (l : ℕ) → l < 2 ^ 18 → (v : ℕ) → v < 2 → (x : ℕ) → x < 2 → (z : ℕ) → z < 2
-        → Tells (restOf (Extended (record { 0 = u * 2 ^ 18 + l })) (eqb v 1) ((1 - s) * 4 + x * 2 + z)) (field 11 u ∷ field 1 s ∷ field 1 1 ∷ field 18 l ∷ field 1 v ∷ field 1 x ∷ field 1 z ∷ [])
+    go : (l : ℕ) → l < 2 ^ lowerWidth → (v : ℕ) → v < 2 → (x : ℕ) → x < 2 → (z : ℕ) → z < 2
+        → Tells (restOf (Extended (record { 0 = joined u l })) (eqb v 1) (notedSum s x z)) (field baseWidth u ∷ field 1 s ∷ field 1 1 ∷ field lowerWidth l ∷ field 1 v ∷ field 1 x ∷ field 1 z ∷ [])
     go l hl v hv x hx z hz =
         let p = extended-parts u s l x z hs hl hx hz in
-        tells-rest (Extended (record { 0 = u * 2 ^ 18 + l })) (eqb v 1) ((1 - s) * 4 + x * 2 + z) (omega arith) (omega arith)
-        (field 11 u ∷ field 1 s ∷ field 1 1 ∷ field 18 l ∷ field 1 v ∷ field 1 x ∷ field 1 z ∷ [])
+        tells-rest (Extended (record { 0 = joined u l })) (eqb v 1) (notedSum s x z) (omega arith) (omega arith)
+        (field baseWidth u ∷ field 1 s ∷ field 1 1 ∷ field lowerWidth l ∷ field 1 v ∷ field 1 x ∷ field 1 z ∷ [])
         (λ (c : ℕ). rw (p .0, p .1, p .2, p .3, p .4, rtr-is v hv))
 
 pub frames-told : (y : Way frames) → GotIn (end frames y) × (along frames y ≡ gotFields (end frames y))
 frames-told y = go (y .0) (y .2) (y .3 .0) (y .3 .2) (y .3 .3 .0) (y .3 .3 .2) (eqb (y .3 .3 .0) 0) refl (y .3 .3 .3)
   where
-    go : (u : ℕ) → u < 2 ^ 11 → (s : ℕ) → s < 2 → (i : ℕ) → i < 2 → (t : Bool) → eqb i 0 ≡ t
-        → Tells (cond t (baseRest u s) (extendedRest u s)) (field 11 u ∷ field 1 s ∷ field 1 i ∷ [])
+    go : (u : ℕ) → u < 2 ^ baseWidth → (s : ℕ) → s < 2 → (i : ℕ) → i < 2 → (t : Bool) → eqb i 0 ≡ t
+        → Tells (cond t (baseRest u s) (extendedRest u s)) (field baseWidth u ∷ field 1 s ∷ field 1 i ∷ [])
     go u hu s hs i hi true e z = let n : i ≡ 0 = eqb-true i 0 e in rw n (tells-base u s hu hs z)
     go u hu s hs i hi false e z = let n : i ≡ 1 = omega (arith, eqb-false i 0 e) in rw n (tells-extended u s hu hs z)
 
@@ -159,12 +158,12 @@ rtr-lt : (t : Bool) → rtr t < 2
 rtr-lt true = lit< tt
 rtr-lt false = lit< tt
 
-noted-sum : (n : ℕ) → n < 8 → (1 - srr n) * 4 + r1 n * 2 + r0 n ≡ n
+noted-sum : (n : ℕ) → n ≤ srrNoted + r1Noted + r0Noted → notedSum (srr n) (r1 n) (r0 n) ≡ n
 noted-sum n h =
-    let a : bitAt n 2 ≡ n / 4 = omega arith in
-    let b : n / 2 ≡ n / 4 * 2 + bitAt n 1 = omega arith in
-    let c : n ≡ n / 2 * 2 + bitAt n 0 = omega arith in
-    let d : 1 - (1 - bitAt n 2) ≡ bitAt n 2 = omega arith in
+    let a : n / 4 % 2 ≡ n / 4 = omega arith in
+    let b : n / 2 ≡ n / 4 * 2 + n / 2 % 2 = omega arith in
+    let c : n ≡ n / 2 * 2 + n % 2 = omega arith in
+    let d : 1 - (1 - n / 4 % 2) ≡ n / 4 % 2 = omega arith in
     omega arith
 
 pub frames-way : (g : Got) → GotIn g → Ends frames g
@@ -176,12 +175,12 @@ frames-way g h = go (g .ident) refl (h .ident) (h .noted)
     go : (i : Ident) → i ≡ g .ident → IdentIn i → NotedIn i (g .noted) → Ends frames g
     go (Base i) e hi hn =
         let m = rest (Base i) (eqb (rtr (g .remote)) 1) (g .noted) e (remote-is (g .remote)) refl in
-        ((i .0, lit< tt, hi, (rtr (g .remote), lit< tt, rtr-lt (g .remote), (0, lit< tt, lit< tt, (g .noted, lit< tt, hn, m .0)))), m .1)
+        ((i .0, lit< tt, hi, (rtr (g .remote), lit< tt, rtr-lt (g .remote), (0, lit< tt, lit< tt, (g .noted, lit< tt, omega (arith, hn), m .0)))), m .1)
     go (Extended i) e hi hn =
         let n : ℕ = g .noted in
-        let whole : upper (i .0) * 2 ^ 18 + lower (i .0) ≡ i .0 = omega arith in
-        let sum : (1 - srr n) * 4 + r1 n * 2 + r0 n ≡ n = noted-sum n hn in
-        let m = rest (Extended (record { 0 = upper (i .0) * 2 ^ 18 + lower (i .0) })) (eqb (rtr (g .remote)) 1) ((1 - srr n) * 4 + r1 n * 2 + r0 n) (ap (λ (v : ℕ). Extended (record { 0 = v })) whole ∙ e) (remote-is (g .remote)) sum in (
+        let whole : joined (upper (i .0)) (lower (i .0)) ≡ i .0 = omega arith in
+        let sum : notedSum (srr n) (r1 n) (r0 n) ≡ n = noted-sum n hn in
+        let m = rest (Extended (record { 0 = joined (upper (i .0)) (lower (i .0)) })) (eqb (rtr (g .remote)) 1) (notedSum (srr n) (r1 n) (r0 n)) (ap (λ (v : ℕ). Extended (record { 0 = v })) whole ∙ e) (remote-is (g .remote)) sum in (
           (
             upper (i .0),
             lit< tt,

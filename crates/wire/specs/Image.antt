@@ -1,10 +1,10 @@
 -- The received image (01 "The wire image"): the samples of a frame with its noted bits and slot, from start of frame to end of frame.
-use Prim.Native.Nat.{ℕ}
+use Prim.Native.Nat.{ℕ, _-_, _^_}
 use mathlib.Core.Bool.{Bool, cond}
 use mathlib.Core.List.{List, [], _∷_, _++_}
 use Rattle.wire.specs.declared.frames.Frame.{Frame}
 use Rattle.wire.specs.declared.frames.Received.{Received}
-use Rattle.wire.specs.Numbers.{crcWidth}
+use Rattle.wire.specs.Numbers.{crcWidth, endOfFrameBits}
 use Rattle.wire.specs.Crc.{crc}
 use Rattle.wire.specs.Stuffing.{code, wire}
 use Rattle.wire.specs.Fields.{Span, field, bare, raw, coded, header, carriedBytes, dataFields}
@@ -23,7 +23,7 @@ slot acknowledged = cond acknowledged 0 1
 
 -- CRC delimiter, acknowledge slot, acknowledge delimiter, seven end-of-frame bits
 abbrev pub ending : Bool → List Span
-ending acknowledged = field 1 1 ∷ bare 1 (slot acknowledged) ∷ bare 1 1 ∷ bare 7 127 ∷ []
+ending acknowledged = field 1 1 ∷ bare 1 (slot acknowledged) ∷ bare 1 1 ∷ bare endOfFrameBits (2 ^ endOfFrameBits - 1) ∷ []
 
 abbrev pub fields : Received → List Span
 fields r =

@@ -6,8 +6,8 @@ use mathlib.Core.List.{List, [], _∷_}
 use lib.Dec.{eqb, ltb}
 use Rattle.wire.specs.declared.idents.Ident.{Ident}
 use Rattle.wire.specs.declared.idents.Ident.the-variants.{Base, Extended}
-use Rattle.wire.specs.Numbers.{crcWidth}
-use Rattle.wire.specs.Fields.{Span, field, carried}
+use Rattle.wire.specs.Numbers.{baseWidth, lowerWidth, codeWidth, byteWidth, crcWidth}
+use Rattle.wire.specs.Fields.{Span, field, notedSum, joined, carried}
 
 pub data Layout (A : Type 0) : Type 0 where
   done : A → Layout A
@@ -68,12 +68,12 @@ pub record Got : Type 0 where
 -- n bytes, and what follows by them
 abbrev pub bytesOf : {A : Type 0} → ℕ → (List ℕ → Layout A) → Layout A
 bytesOf zero k = k []
-bytesOf (suc n) k = part 8 (λ (b : ℕ). bytesOf n (λ (bs : List ℕ). k (b ∷ bs)))
+bytesOf (suc n) k = part byteWidth (λ (b : ℕ). bytesOf n (λ (bs : List ℕ). k (b ∷ bs)))
 
 -- length code, data and CRC
 abbrev pub restOf : Ident → Bool → ℕ → Layout Got
 restOf i remote noted =
-    part 4 (λ (c : ℕ).
+    part codeWidth (λ (c : ℕ).
     bytesOf (carried remote c) (λ (bs : List ℕ).
     part crcWidth (λ (k : ℕ). done (record { ident = i; remote = remote; code = c; bytes = bs; noted = noted; crc = k }))))
 
@@ -84,16 +84,16 @@ baseRest id rtr = part 1 (λ (r0 : ℕ). restOf (Base (record { 0 = id })) (eqb 
 -- the lower 18 identifier bits, RTR, r1, r0
 abbrev pub extendedRest : ℕ → ℕ → Layout Got
 extendedRest upper srr =
-    part 18 (λ (lower : ℕ).
+    part lowerWidth (λ (lower : ℕ).
     part 1 (λ (rtr : ℕ).
     part 1 (λ (r1 : ℕ).
     part 1 (λ (r0 : ℕ).
-    restOf (Extended (record { 0 = upper * 2 ^ 18 + lower })) (eqb rtr 1) ((1 - srr) * 4 + r1 * 2 + r0)))))
+    restOf (Extended (record { 0 = joined upper lower })) (eqb rtr 1) (notedSum srr r1 r0)))))
 
 -- 11 identifier bits, RTR or SRR, IDE
 abbrev pub frames : Layout Got
 frames =
-    part 11 (λ (upper : ℕ).
+    part baseWidth (λ (upper : ℕ).
     part 1 (λ (srr : ℕ).
     part 1 (λ (ide : ℕ).
     cond (eqb ide 0) (baseRest upper srr) (extendedRest upper srr))))

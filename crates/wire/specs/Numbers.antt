@@ -1,11 +1,41 @@
--- The numbers of document 01, each named once.
-use Prim.Native.Nat.{ℕ, _^_}
+-- The numbers of document 01, each named once. The fault ledger and the claims name their own. 0 and 1 as bits, a refusal's number and the
+-- figures of a sample stay as document 01 writes them.
+use Prim.Native.Nat.{ℕ, _+_, _-_, _^_}
+
+-- HOW BITS AND FRAMES ARE HELD
+
+-- the bytes of a data frame, at most
+abbrev pub room : ℕ
+room = 8
+
+-- what each noted bit adds to their sum
+abbrev pub srrNoted : ℕ
+srrNoted = 4
+
+abbrev pub r1Noted : ℕ
+r1Noted = 2
+
+abbrev pub r0Noted : ℕ
+r0Noted = 1
 
 -- THE WIRE IMAGE
 
--- after so many equal bits one opposite bit is inserted
-abbrev pub five : ℕ
-five = 5
+-- how many bits a base identifier has, and the upper part of an extended one; its lower part; the whole of it, 29
+abbrev pub baseWidth : ℕ
+baseWidth = 11
+
+abbrev pub lowerWidth : ℕ
+lowerWidth = 18
+
+abbrev pub extendedWidth : ℕ
+extendedWidth = baseWidth + lowerWidth
+
+-- the length code's bits, and a byte's
+abbrev pub codeWidth : ℕ
+codeWidth = 4
+
+abbrev pub byteWidth : ℕ
+byteWidth = 8
 
 -- the CRC's register has so many bits, and starts so; the generator stands without its top term
 abbrev pub crcWidth : ℕ
@@ -17,19 +47,13 @@ crcGenerator = 0x4599
 abbrev pub crcStart : ℕ
 crcStart = 0
 
--- how many identifiers there are of each kind, and how many length codes
-abbrev pub baseIds : ℕ
-baseIds = 2 ^ 11
+-- after so many equal bits one opposite bit is inserted
+abbrev pub five : ℕ
+five = 5
 
-abbrev pub extendedIds : ℕ
-extendedIds = 2 ^ 29
-
-abbrev pub codes : ℕ
-codes = 16
-
--- the bytes of a data frame, at most
-abbrev pub room : ℕ
-room = 8
+-- how many bits the end of frame has
+abbrev pub endOfFrameBits : ℕ
+endOfFrameBits = 7
 
 -- no image is longer
 abbrev pub longestBase : ℕ
@@ -44,14 +68,23 @@ longestExtended = 157
 abbrev pub idle : ℕ
 idle = 11
 
--- so many stand right before every start of frame
-abbrev pub quiet : ℕ
-quiet = 10
+-- the end-of-frame bit at which a frame is handed out
+abbrev pub handOutBit : ℕ
+handOutBit = 6
 
--- so many leave a listener in any place ready
-abbrev pub settling : ℕ
-settling = 17
+-- how many bits the intermission has
+abbrev pub intermissionBits : ℕ
+intermissionBits = 3
 
--- so many recessive bits stand between two frames, at least
-abbrev pub between : ℕ
-between = 2
+-- WHEN THE HANDSET SAYS NO
+
+-- the highest identifiers, 2,047 and 536,870,911
+abbrev pub highestBase : ℕ
+highestBase = 2 ^ baseWidth - 1
+
+abbrev pub highestExtended : ℕ
+highestExtended = 2 ^ extendedWidth - 1
+
+-- the highest length code that is written
+abbrev pub highestWritten : ℕ
+highestWritten = 8

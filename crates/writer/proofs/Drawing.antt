@@ -1,5 +1,5 @@
 -- What is drawn is the image: the head as one field, the parts of a draft put together, and the whole.
-use Prim.Native.Nat.{ℕ, _+_, _-_, _*_, _/_, _%_, _≤_}
+use Prim.Native.Nat.{ℕ, _+_, _-_, _*_, _/_, _%_, _^_, _<_, _≤_}
 use mathlib.Core.Path.{_≡_, sym, ap, _∙_}
 use mathlib.Core.Bool.{Bool, false}
 use mathlib.Core.List.{List, _∷_, _++_}
@@ -7,12 +7,11 @@ use native.Mathlib.Nat.{sub-zero}
 use native.Mathlib.Omega.{arith}
 use lib.ListN.{length, take}
 use borrow.Author.Needs.{needs}
-use borrow.Author.Tests.{ltb-false}
 use Rattle.wire.specs.declared.idents.BaseId.{BaseId}
 use Rattle.wire.specs.declared.idents.ExtId.{ExtId}
 use Rattle.wire.specs.declared.idents.Ident.the-variants.{Base, Extended}
 use Rattle.wire.specs.declared.frames.Frame.{Frame}
-use Rattle.wire.specs.Numbers.{crcWidth, crcGenerator}
+use Rattle.wire.specs.Numbers.{baseWidth, extendedWidth, crcWidth, crcGenerator, highestWritten}
 use Rattle.wire.specs.Bits.{bits}
 use Rattle.wire.specs.Crc.{crc, crcFrom}
 use Rattle.wire.specs.Stuffing.{none, Coded, dynamic, plain, wire, codeFrom, all}
@@ -34,8 +33,8 @@ module _ (f : Frame) (ok : frameRefusal f ≡ 0) (r : ℕ) (e : r ≡ rtr (f .re
   pub head-base : (i : BaseId) → f .ident ≡ Base i → bits 19 (i .0 * 128 + (r * 64 + f .code)) ≡ raw (headFields f)
   unfolding bits
   head-base i q =
-      let id : i .0 ≤ 2047 = ltb-false 2047 (i .0) (rw q at (ident-fits f ok)) in
-      let code : f .code ≤ 8 = code-fits f ok in
+      let id : i .0 < 2 ^ baseWidth = rw q at (ident-fits f ok) in
+      let code : f .code ≤ highestWritten = code-fits f ok in
       let all : List Span = startOfFrame ∷ header (Base i) (f .remote) (f .code) 0 in
       let value : i .0 * 128 + (r * 64 + f .code) ≡ valueFrom 0 all = omega arith in
       rw (q, value) (sym (raw-packed 0 0 all (search needs)))
@@ -44,8 +43,8 @@ module _ (f : Frame) (ok : frameRefusal f ≡ 0) (r : ℕ) (e : r ≡ rtr (f .re
       → bits 39 (((i .0 / 262144 * 4 + 3) * 262144 + i .0 % 262144) * 128 + (r * 64 + f .code)) ≡ raw (headFields f)
   unfolding bits
   head-extended i q =
-      let id : i .0 ≤ 536870911 = ltb-false 536870911 (i .0) (rw q at (ident-fits f ok)) in
-      let code : f .code ≤ 8 = code-fits f ok in
+      let id : i .0 < 2 ^ extendedWidth = rw q at (ident-fits f ok) in
+      let code : f .code ≤ highestWritten = code-fits f ok in
       let all : List Span = startOfFrame ∷ header (Extended i) (f .remote) (f .code) 0 in
       let value : ((i .0 / 262144 * 4 + 3) * 262144 + i .0 % 262144) * 128 + (r * 64 + f .code) ≡ valueFrom 0 all = omega arith in
       rw (q, value) (sym (raw-packed 0 0 all (search needs)))

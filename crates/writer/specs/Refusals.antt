@@ -6,6 +6,7 @@ use lib.Dec.{eqb, ltb}
 use Rattle.wire.specs.declared.idents.Ident.{Ident}
 use Rattle.wire.specs.declared.idents.Ident.the-variants.{Base, Extended}
 use Rattle.wire.specs.declared.frames.Frame.{Frame}
+use Rattle.wire.specs.Numbers.{highestBase, highestExtended, highestWritten}
 
 -- a refusal's number, and whether it applies
 pub record Row : Type 0 where
@@ -22,12 +23,12 @@ first (r ∷ rs) = cond (r .applies) (r .number) (first rs)
 
 -- 1: identifier above 2,047 (base) or 536,870,911 (extended)
 abbrev pub tooLarge : Ident → Bool
-tooLarge (Base i) = ltb 2047 (i .0)
-tooLarge (Extended i) = ltb 536870911 (i .0)
+tooLarge (Base i) = ltb highestBase (i .0)
+tooLarge (Extended i) = ltb highestExtended (i .0)
 
 -- 2: length code above 8
 abbrev pub overlong : ℕ → Bool
-overlong code = ltb 8 code
+overlong code = ltb highestWritten code
 
 -- 3: data frame: byte count differs from the length code; remote frame: any byte given
 abbrev pub miscounted : Bool → ℕ → ℕ → Bool

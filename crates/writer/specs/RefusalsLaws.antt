@@ -1,13 +1,20 @@
--- Laws of rows of refusals: a number is given exactly where its row applies and none before it does.
+-- Laws of rows of refusals: a number is given exactly where its row applies and none before it does; and what a frame keeps to that is
+-- not refused.
 use Prim.Native.Nat.{ℕ, _≤_}
-use mathlib.Core.Path.{_≡_, refl, sym}
+use mathlib.Core.Path.{_≡_, refl, sym, _∙_}
 use mathlib.Core.Logic.{_↔_}
 use mathlib.Core.Bool.{Bool, true, false, cond, true≢false, false≢true}
 use mathlib.Core.List.{List, [], _∷_, _++_}
-use lib.Dec.{eqb}
-use borrow.Author.Tests.{ne-eqb, eqb-false, ltb-false}
+use native.Mathlib.Omega.{arith}
+use lib.Dec.{eqb, ltb}
+use borrow.Author.Tests.{ne-eqb, eqb-true, eqb-false, ltb-false, not-false}
+use Rattle.wire.specs.declared.idents.Ident.{Ident}
+use Rattle.wire.specs.declared.idents.Ident.the-variants.{Base, Extended}
 use Rattle.wire.specs.declared.frames.Frame.{Frame}
-use Rattle.writer.specs.Refusals.{Row, first, tooLarge, frameRows, frameRefusal}
+use Rattle.wire.specs.Numbers.{room, highestBase, highestExtended, highestWritten}
+use Rattle.wire.specs.Fields.{carried}
+use Rattle.wire.specs.Legal.{IdentIn}
+use Rattle.writer.specs.Refusals.{Row, first, tooLarge, miscounted, frameRows, frameRefusal}
 
 -- no row applies
 abbrev pub None : List Row → Type 0
@@ -72,10 +79,28 @@ first-append (x ∷ xs) ys h = let w = absent-cons 0 x xs h in go (x .applies) (
 
 -- what a frame that is not refused keeps to
 module _ (f : Frame) (ok : frameRefusal f ≡ 0) where
-  pub ident-fits : tooLarge (f .ident) ≡ false
+  none : None (frameRows f)
   unfolding frameRefusal
-  ident-fits = none-exactly (frameRows f) refl .0 ok .0
+  none = none-exactly (frameRows f) refl .0 ok
 
-  pub code-fits : f .code ≤ 8
-  unfolding frameRefusal
-  code-fits = ltb-false 8 (f .code) (none-exactly (frameRows f) refl .0 ok .1 .0)
+  pub ident-fits : IdentIn (f .ident)
+  ident-fits = go (f .ident) (none .0)
+    where
+      go : (i : Ident) → tooLarge i ≡ false → IdentIn i
+      go (Base i) e = omega (arith, ltb-false highestBase (i .0) e)
+      go (Extended i) e = omega (arith, ltb-false highestExtended (i .0) e)
+
+  pub code-fits : f .code ≤ highestWritten
+  code-fits = ltb-false highestWritten (f .code) (none .1 .0)
+
+  -- it carries the bytes that it gives
+  pub count-fits : carried (f .remote) (f .code) ≡ f .count
+  count-fits = go (f .remote) (none .1 .1 .0)
+    where
+      below : (t : Bool) → ltb (f .code) room ≡ t → cond t (f .code) room ≡ f .code
+      below true l = refl
+      below false l = omega (arith, code-fits, ltb-false (f .code) room l)
+
+      go : (remote : Bool) → miscounted remote (f .code) (f .count) ≡ false → carried remote (f .code) ≡ f .count
+      go true e = omega (arith, ltb-false 0 (f .count) e)
+      go false e = below (ltb (f .code) room) refl ∙ sym (eqb-true (f .count) (f .code) (not-false (eqb (f .count) (f .code)) e))

@@ -2,14 +2,15 @@
 use native.Mathlib.Omega.{arith}
 use borrow.Author.Needs.{needs}
 use borrow.Author.Tests.{lt-ltb, le-ltb}
+use Rattle.ledger.specs.Numbers.{mostGroups}
 use Rattle.ledger.proofs.ledger.Ledger.grouped.Statement.{statement}
 use Rattle.ledger.proofs.ledger.Ledger.grouped.Tie as tie
 
 returns : tie.Need-returns
-returns c = simp (lt-ltb (c .before .args .self .groups) 127 (omega arith))
+returns c = simp (lt-ltb (c .before .args .self .groups) mostGroups (omega arith))
 
 returns-2 : tie.Need-returns-2
-returns-2 c = simp (le-ltb (c .before .before .args .self .groups) 127 (omega arith)) (c .new .ensures)
+returns-2 c = simp (le-ltb (c .before .before .args .self .groups) mostGroups (omega arith)) (c .new .ensures)
 
 pub grouped-spec : {M : Type 1} → statement M
 grouped-spec = tie.close (tie.spec (search needs) returns (search needs) returns-2)

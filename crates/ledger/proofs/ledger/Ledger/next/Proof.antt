@@ -2,6 +2,7 @@
 use mathlib.Core.Path.{sym, _∙_}
 use borrow.Author.Tests.{ltb-false}
 use borrow.Author.Needs.{needs}
+use Rattle.ledger.specs.Numbers.{offAbove}
 use Rattle.ledger.specs.AnswerLaws.{ranged}
 use Rattle.ledger.specs.Rules.{next}
 use Rattle.ledger.proofs.Tests.{tests}
@@ -14,7 +15,7 @@ returns c = search tests
 
 counting-requires : tie.Need-counting-requires
 counting-requires c κs =
-    (ltb-false 255 _ (sym (c .before .is-off .ensures) ∙ c .if1 .left), ranged _ (c .before .before .pre) .receive-le)
+    (ltb-false offAbove _ (sym (c .before .is-off .ensures) ∙ c .if1 .left), ranged _ (c .before .before .pre) .receive-le)
 
 returns-2 : tie.Need-returns-2
 unfolding next
