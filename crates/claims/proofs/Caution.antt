@@ -16,7 +16,7 @@ use Rattle.wire.specs.Stuffing.{stuffFrom}
 use Rattle.wire.specs.Crc.{crc}
 use Rattle.wire.specs.Fields.{raw, header, carried, dataFields}
 use Rattle.wire.specs.Image.{startOfFrame, slot, image}
-use Rattle.wire.specs.FieldsLaws.{carried-most}
+use Rattle.wire.specs.FieldsLaws.{carried-le}
 use Rattle.wire.specs.ImageLaws.{gotOf, begun, image-parts}
 use Rattle.wire.specs.Legal.{Legal}
 use Rattle.wire.specs.Layout.{Got}
@@ -85,7 +85,7 @@ module _ (g : Got) (x : ℕ) (l : GotIn g) (few : x < 2) (right : checks g ≡ t
   r = receivedFrom g x
 
   size : length (g .bytes) ≤ room
-  size = omega (arith, l .size, carried-most (g .remote) (g .code))
+  size = omega (arith, l .size, carried-le (g .remote) (g .code))
 
   -- the bytes in use are those read
   used : take (carried (g .remote) (g .code)) (g .bytes ++ replicate (room - length (g .bytes)) 0) ≡ g .bytes

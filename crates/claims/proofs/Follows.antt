@@ -13,7 +13,7 @@ use borrow.Author.Tests.{lt-ltb, le-ltb, eqb-true, eqb-false}
 use Rattle.wire.specs.Numbers.{room, srrNoted, r1Noted, r0Noted, baseWidth, lowerWidth, crcWidth}
 use Rattle.wire.specs.Stuffing.{opposite}
 use Rattle.wire.specs.Fields.{notedSum, joined, carried}
-use Rattle.wire.specs.FieldsLaws.{carried-most}
+use Rattle.wire.specs.FieldsLaws.{carried-le}
 use Rattle.wire.specs.Layout.{Layout, done, part, Got, bytesOf, restOf, baseRest, extendedRest, frames}
 use Rattle.wire.specs.declared.idents.Ident.{Ident}
 use Rattle.wire.specs.declared.idents.Ident.the-variants.{Base, Extended}
@@ -76,7 +76,7 @@ module _ (g : Registers) (bytes : List ℕ) (i : Ident) (remote : Bool) (noted :
         refl,
         λ (x : ℕ) (h : x < 2 ^ crcWidth).
             let n : bytesToCome (withCode g c) ≡ carried remote c = ap (λ (t : Bool). carried t c) er in
-            let b : take (bytesToCome (withCode g c)) (sets bytes 0 ds) ≡ ds = ap (λ (m : ℕ). take m (sets bytes 0 ds)) n ∙ full bytes ds (carried remote c) z o (carried-most remote c) in
+            let b : take (bytesToCome (withCode g c)) (sets bytes 0 ds) ≡ ds = ap (λ (m : ℕ). take m (sets bytes 0 ds)) n ∙ full bytes ds (carried remote c) z o (carried-le remote c) in
             rw (mod-eq-of-lt h) (refl, same-got ei er b en),
       )
 
@@ -85,7 +85,7 @@ module _ (g : Registers) (bytes : List ℕ) (i : Ident) (remote : Bool) (noted :
       behind c =
           let n : bytesToCome (withCode g c) ≡ carried remote c = ap (λ (t : Bool). carried t c) er in
           rw n
-          (bytes-follow (carried remote c) 0 (carried remote c) (withCode g c) bytes (λ (bs : List ℕ). part crcWidth (λ (x : ℕ). done (record { ident = i; remote = remote; code = c; bytes = bs; noted = noted; crc = x }))) n (omega arith) (carried-most remote c) (crc-follows c))
+          (bytes-follow (carried remote c) 0 (carried remote c) (withCode g c) bytes (λ (bs : List ℕ). part crcWidth (λ (x : ℕ). done (record { ident = i; remote = remote; code = c; bytes = bs; noted = noted; crc = x }))) n (omega arith) (carried-le remote c) (crc-follows c))
 
 -- THE HEADER
 

@@ -12,7 +12,7 @@ use Rattle.wire.specs.Numbers.{room, crcWidth, crcGenerator, crcStart}
 use Rattle.wire.specs.CrcLaws.{crc-lt}
 use Rattle.wire.specs.Fields.{raw, carried, carriedBytes}
 use Rattle.wire.specs.Image.{body, slot}
-use Rattle.wire.specs.FieldsLaws.{carried-most}
+use Rattle.wire.specs.FieldsLaws.{carried-le}
 use Rattle.wire.specs.ImageLaws.{gotOf}
 use Rattle.wire.specs.Legal.{Stored, Legal}
 use Rattle.wire.specs.FramesLaws.{GotIn, AllBytes}
@@ -68,7 +68,7 @@ padded-stored bs h k =
 
 module _ (r : Received) (l : Legal r) where
   few : r .frame .count ≤ room
-  few = omega (arith, l .count, carried-most (r .frame .remote) (r .frame .code))
+  few = omega (arith, l .count, carried-le (r .frame .remote) (r .frame .code))
 
   taken-length : length (carriedBytes (r .frame)) ≡ r .frame .count
   taken-length =

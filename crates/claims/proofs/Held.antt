@@ -13,7 +13,7 @@ use Rattle.wire.specs.BitsLaws.{length-bits}
 use Rattle.wire.specs.Crc.{crcStep, crcFrom, crc}
 use Rattle.wire.specs.Fields.{Span, field, raw, header, dataFields}
 use Rattle.wire.specs.Image.{startOfFrame}
-use Rattle.wire.specs.FieldsLaws.{raw-append, carried-most}
+use Rattle.wire.specs.FieldsLaws.{raw-append, carried-le}
 use Rattle.wire.specs.Layout.{done, wide, Got}
 use Rattle.wire.specs.FramesLaws.{gotFields, GotIn}
 use Rattle.reader.specs.declared.fields.Field.the-variants.{Done}
@@ -85,7 +85,7 @@ held-is : (f : InFrame) (bytes : List ℕ) → length bytes ≡ room → f .read
     → receivedOf f bytes ≡ receivedFrom (held (f .reader .registers) bytes) (f .slot)
 held-is f bytes size h =
     let n : ℕ = bytesToCome (f .reader .registers) in
-    let m : length (take n bytes) ≡ n = length-take n bytes ∙ omega (arith, carried-most (remoteOf (f .reader .registers)) (f .reader .registers .code)) in
+    let m : length (take n bytes) ≡ n = length-take n bytes ∙ omega (arith, carried-le (remoteOf (f .reader .registers)) (f .reader .registers .code)) in
     rw (m, mod-eq-of-lt h)
 
 pub received-is : (g : Got) (f : InFrame) (bytes : List ℕ) → Complete g f bytes → receivedOf f bytes ≡ receivedFrom g (f .slot)

@@ -12,7 +12,7 @@ use Rattle.wire.specs.declared.frames.Frame.{Frame}
 use Rattle.wire.specs.Numbers.{room}
 use Rattle.wire.specs.Fields.{carried, carriedBytes, trimmed}
 use Rattle.wire.specs.Image.{image}
-use Rattle.wire.specs.FieldsLaws.{carried-most}
+use Rattle.wire.specs.FieldsLaws.{carried-le}
 use Rattle.wire.specs.Legal.{NotedIn, Stored, Legal}
 use Rattle.writer.specs.Refusals.{frameRefusal}
 use Rattle.writer.specs.RefusalsLaws.{ident-fits, code-fits, count-fits}
@@ -25,7 +25,7 @@ module _ (f : Frame) (ok : frameRefusal f ≡ 0) (b : EightBytes f) where
   count-is = sym (count-fits f ok)
 
   some : f .count ≤ room
-  some = omega (arith, count-is, carried-most (f .remote) (f .code))
+  some = omega (arith, count-is, carried-le (f .remote) (f .code))
 
   taken-length : length (take (f .count) (f .bytes)) ≡ f .count
   taken-length = length-take (f .count) (f .bytes) ∙ omega (arith, b .size, some)

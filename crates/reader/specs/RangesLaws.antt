@@ -3,10 +3,10 @@ use Prim.Native.Nat.{ℕ, _+_, _^_, _<_, _≤_}
 use mathlib.Core.Path.{_≡_, refl}
 use mathlib.Core.Bool.{Bool, true, false, cond, _&&_, false≢true}
 use native.Mathlib.Omega.{arith}
-use lib.Dec.{eqb, ltb, lit<, lit≤}
+use lib.Dec.{eqb, ltb, lit<}
 use borrow.Author.Tests.{ltb-true, lt-ltb}
 use Rattle.wire.specs.Numbers.{room, baseWidth, lowerWidth, codeWidth, crcWidth}
-use Rattle.wire.specs.Fields.{carried}
+use Rattle.wire.specs.FieldsLaws.{carried-le}
 use Rattle.reader.specs.declared.fields.Field.{Field}
 use Rattle.reader.specs.declared.fields.Field.the-variants.{Upper, Srr, Ide, Lower, Rtr, R1, R0, Code, Data, Crc, Done}
 use Rattle.reader.specs.declared.registers.Registers.{Registers}
@@ -88,14 +88,6 @@ width-lt Code = lit< tt
 width-lt (Data i) = lit< tt
 width-lt Crc = lit< tt
 width-lt Done = lit< tt
-
-pub carried-le : (remote : Bool) (code : ℕ) → carried remote code ≤ room
-carried-le true code = lit≤ tt
-carried-le false code = go (ltb code room) refl
-  where
-    go : (t : Bool) → ltb code room ≡ t → cond t code room ≤ room
-    go true e = omega (arith, ltb-true code room e)
-    go false e = lit≤ tt
 
 data-fits : (i n : ℕ) → n ≤ room → fieldFits (dataOrCrc i n) ≡ true
 data-fits i n h = go (ltb i n) refl

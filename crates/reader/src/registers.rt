@@ -6,9 +6,9 @@ use wire::ExtId;
 use wire::Frame;
 use wire::Ident;
 use wire::frames::ROOM;
+use wire::frames::carried;
 ghost use mathlib.Core.Path.{_≡_};
 ghost use Prim.Native.Nat.{_≤_};
-ghost use Rattle.wire.specs.Fields.{carried};
 ghost use Rattle.reader.specs.Ranges.{registersFit};
 ghost use Rattle.reader.specs.Reader.{newRegisters, remoteOf, identOf, noteOf, notedOf, bytesToCome, frameOf, putOf, afterIde, dataOrCrc, afterData, nextOf};
 
@@ -30,19 +30,6 @@ fn note(b: u32, noted: u32, weight: u8) -> u8
     ensures { λ r. ⌜ (r ≡ noteOf b noted weight) × (r ≤ weight) ⌝ }
 {
     if b == noted { weight } else { 0 }
-}
-
-// How many data bytes a length code stands for.
-fn carried(remote: bool, code: u32) -> usize
-    ensures { λ r. ⌜ r ≡ carried remote code ⌝ }
-{
-    if remote {
-        0
-    } else if code < 8 {
-        code as usize
-    } else {
-        8
-    }
 }
 
 fn after_ide(ide: u32) -> Field

@@ -74,9 +74,9 @@ pub length-header : (i : Ident) (remote : Bool) (code noted : ℕ) → length (r
 length-header (Base i) remote code noted = simp (length-append, length-bits)
 length-header (Extended i) remote code noted = simp (length-append, length-bits)
 
-pub carried-most : (remote : Bool) (code : ℕ) → carried remote code ≤ room
-carried-most true code = omega arith
-carried-most false code = go (ltb code room) refl
+pub carried-le : (remote : Bool) (code : ℕ) → carried remote code ≤ room
+carried-le true code = omega arith
+carried-le false code = go (ltb code room) refl
   where
     go : (t : Bool) → ltb code room ≡ t → cond t code room ≤ room
     go true e = omega (arith, ltb-true code room e)

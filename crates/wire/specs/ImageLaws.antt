@@ -19,7 +19,7 @@ use Rattle.wire.specs.Crc.{crc}
 use Rattle.wire.specs.Stuffing.{none, ran, dynamic, plain, Coded, wire, codeFrom, all, stuffFrom}
 use Rattle.wire.specs.StuffingLaws.{wire-append, code-append, code-plain, runAfter, stuff-bits, stuff-length}
 use Rattle.wire.specs.Fields.{Span, field, bare, raw, coded, header, carried, carriedBytes, dataFields}
-use Rattle.wire.specs.FieldsLaws.{raw-append, coded-append, Alike, alike-append, coded-alike, header-stuffed, data-stuffed, raw-bits, headerBits, length-header, length-data, carried-most}
+use Rattle.wire.specs.FieldsLaws.{raw-append, coded-append, Alike, alike-append, coded-alike, header-stuffed, data-stuffed, raw-bits, headerBits, length-header, length-data, carried-le}
 use Rattle.wire.specs.Image.{startOfFrame, body, slot, fields, image}
 use Rattle.wire.specs.Layout.{done, end, Walker, enter, takes, Got, frames}
 use Rattle.wire.specs.LayoutLaws.{Reads, reads-way}
@@ -130,7 +130,7 @@ stuffed-most r =
       length-header (f .ident) (f .remote) (f .code) (r .noted),
       length-data (carriedBytes f),
       length-take n (f .bytes),
-      carried-most (f .remote) (f .code),
+      carried-le (f .remote) (f .code),
     )
 
 abbrev pub longest : Ident → ℕ

@@ -1,5 +1,7 @@
 // Frames (01 "How bits and frames are held").
 use crate::idents::Ident;
+ghost use mathlib.Core.Path.{_≡_};
+ghost use Rattle.wire.specs.Fields.{carried};
 
 // How many data bytes a record has room for.
 pub const ROOM: usize = 8;
@@ -18,4 +20,17 @@ pub struct Received {
     pub frame: Frame,
     pub acknowledged: bool,
     pub noted: u8,
+}
+
+// How many data bytes a frame carries, by its remote mark and its length code.
+pub fn carried(remote: bool, code: u32) -> usize
+    ensures { λ r. ⌜ r ≡ carried remote code ⌝ }
+{
+    if remote {
+        0
+    } else if code < 8 {
+        code as usize
+    } else {
+        ROOM
+    }
 }

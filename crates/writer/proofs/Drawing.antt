@@ -23,7 +23,7 @@ use Rattle.writer.specs.RefusalsLaws.{ident-fits, code-fits}
 use Rattle.writer.specs.Writer.{wireBits}
 use Rattle.writer.specs.Pages.{Page, page, newPen, newDraft, marks, drawn, Sheet, sheet, laid, closed, framed, headFields}
 use Rattle.writer.specs.PagesLaws.{drawn-append, laid-append}
-use Rattle.wire.specs.FieldsLaws.{raw-append, carried-most}
+use Rattle.wire.specs.FieldsLaws.{raw-append, carried-le}
 use Rattle.writer.specs.PackedLaws.{valueFrom, raw-packed}
 use Rattle.writer.specs.ImageLaws.{covered, sent-coded, ending-coded}
 
@@ -80,7 +80,7 @@ covered-framed f o =
     ∙ ap (λ (l : List Coded). marks (page o newPen) (wire (codeFrom none l))) (sym (sent-coded f))
 
 pub carried-fits : (remote : Bool) (code n : ℕ) (bytes : List ℕ) → n ≡ carried remote code → length bytes ≡ 8 → n ≤ length bytes
-carried-fits remote code n bytes len full = omega (arith, carried-most remote code)
+carried-fits remote code n bytes len full = omega (arith, carried-le remote code)
 
 pub image-whole : (f : Frame) (n w v : ℕ) (o : List ℕ) (t : Page) → n ≡ carried (f .remote) (f .code) → bits w v ≡ raw (headFields f)
     → t ≡ framed o (bits w v ++ raw (dataFields (take (n - 0) (f .bytes)))) → t ≡ marks (page o newPen) (wireBits f)

@@ -4,26 +4,14 @@ use crate::head::Field;
 use crate::head::head;
 use crate::pen::Pen;
 use wire::Frame;
+use wire::frames::carried;
 ghost use mathlib.Core.Path.{_≡_};
 ghost use mathlib.Core.List.{_++_};
 ghost use Rattle.wire.specs.Bits.{bits};
-ghost use Rattle.wire.specs.Fields.{raw, carried, dataFields};
+ghost use Rattle.wire.specs.Fields.{raw, dataFields};
 ghost use Rattle.writer.specs.Refusals.{frameRefusal};
 ghost use Rattle.writer.specs.Writer.{wireBits};
 ghost use Rattle.writer.specs.Pages.{newPen, page, marks, framed};
-
-// How many bytes a frame carries.
-fn carried(remote: bool, code: u8) -> usize
-    ensures { λ r. ⌜ r ≡ carried remote code ⌝ }
-{
-    if remote {
-        0
-    } else if code < 8 {
-        code as usize
-    } else {
-        8
-    }
-}
 
 // A head, bytes and what closes them, from the front of `out`; the pen then stands behind them.
 fn framed(out: &mut [u8], head: Field, bytes: &[u8]) -> Pen
@@ -39,7 +27,7 @@ pub(crate) fn draw(f: Frame, out: &mut [u8]) -> Pen
     ensures { λ r. ⌜ page (now (out .exit)) r ≡ marks (page (now (out .entry)) newPen) (wireBits f) ⌝ }
 {
     let head = head(f);
-    let n = carried(f.remote, f.code);
+    let n = carried(f.remote, f.code as u32);
     let bytes = f.bytes;
     framed(out, head, &bytes[0..n])
 }

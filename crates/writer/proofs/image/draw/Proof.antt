@@ -7,6 +7,9 @@ use Rattle.writer.proofs.image.draw.Tie as tie
 head-requires : tie.Need-head-requires
 head-requires c κs = search needs
 
+cast-carried : tie.Need-cast-carried
+cast-carried c = search needs
+
 carried-requires : tie.Need-carried-requires
 carried-requires c κs = search needs
 
@@ -33,6 +36,7 @@ draw-spec =
     tie.close
     (tie.spec
     head-requires
+    cast-carried
     carried-requires
     sub-framed
     part-framed-start

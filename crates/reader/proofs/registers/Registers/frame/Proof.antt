@@ -2,7 +2,7 @@
 use native.Mathlib.Omega.{arith}
 use borrow.Author.Needs.{needs}
 use Rattle.reader.specs.Reader.{remoteOf}
-use Rattle.reader.specs.RangesLaws.{carried-le}
+use Rattle.wire.specs.FieldsLaws.{carried-le}
 use Rattle.reader.proofs.registers.Registers.frame.Statement.{statement}
 use Rattle.reader.proofs.registers.Registers.frame.Tie as tie
 

@@ -1,8 +1,8 @@
 -- By the remote mark, then by the code.
 use borrow.Author.Needs.{needs}
 use Rattle.wire.proofs.Tests.{tests}
-use Rattle.writer.proofs.image.carried.Statement.{statement}
-use Rattle.writer.proofs.image.carried.Tie as tie
+use Rattle.wire.proofs.frames.carried.Statement.{statement}
+use Rattle.wire.proofs.frames.carried.Tie as tie
 
 returns : tie.Need-returns
 returns c = search needs
