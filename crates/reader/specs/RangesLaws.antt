@@ -76,7 +76,7 @@ put-in g Done v i = i
 
 -- FIELDS
 
-pub width-lt : (f : Field) → widthOf f < 19
+pub width-lt : (f : Field) → widthOf f < lowerWidth + 1
 width-lt Upper = lit< tt
 width-lt Srr = lit< tt
 width-lt Ide = lit< tt
@@ -121,7 +121,7 @@ next-fits g Done = refl
 
 pub record ReaderIn (r : Reader) : Type 0 where
   pub field : fieldFits (r .field) ≡ true
-  pub left : r .left < 19
+  pub left : r .left < lowerWidth + 1
   pub value : r .value < 2 ^ lowerWidth
   pub registers : RegistersIn (r .registers)
 

@@ -11,7 +11,7 @@ use Rattle.wire.specs.declared.idents.BaseId.{BaseId}
 use Rattle.wire.specs.declared.idents.ExtId.{ExtId}
 use Rattle.wire.specs.declared.idents.Ident.the-variants.{Base, Extended}
 use Rattle.wire.specs.declared.frames.Frame.{Frame}
-use Rattle.wire.specs.Numbers.{baseWidth, extendedWidth, crcWidth, crcGenerator, highestWritten}
+use Rattle.wire.specs.Numbers.{room, baseWidth, extendedWidth, crcWidth, crcGenerator, highestWritten}
 use Rattle.wire.specs.Bits.{bits}
 use Rattle.wire.specs.Crc.{crc, crcFrom}
 use Rattle.wire.specs.Stuffing.{none, Coded, dynamic, plain, wire, codeFrom, all}
@@ -79,7 +79,7 @@ covered-framed f o =
     sym (drawn-append (page o newPen) (all dynamic (covered f)) (coded (field crcWidth (crc (covered f)) ∷ ending false)))
     ∙ ap (λ (l : List Coded). marks (page o newPen) (wire (codeFrom none l))) (sym (sent-coded f))
 
-pub carried-fits : (remote : Bool) (code n : ℕ) (bytes : List ℕ) → n ≡ carried remote code → length bytes ≡ 8 → n ≤ length bytes
+pub carried-fits : (remote : Bool) (code n : ℕ) (bytes : List ℕ) → n ≡ carried remote code → length bytes ≡ room → n ≤ length bytes
 carried-fits remote code n bytes len full = omega (arith, carried-le remote code)
 
 pub image-whole : (f : Frame) (n w v : ℕ) (o : List ℕ) (t : Page) → n ≡ carried (f .remote) (f .code) → bits w v ≡ raw (headFields f)
