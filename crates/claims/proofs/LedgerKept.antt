@@ -89,5 +89,5 @@ ledger-kept = record {
   off-happens = thirty-two-flags;
   chained = λ h e. rw (answered h, answered (h ++ (e ∷ []))) (chained h e);
   group-127 = λ h p seen. rw (answered (h ++ (ElevenRecessive ∷ []))) (passed-off (h ++ (ElevenRecessive ∷ [])) (still-passed h ElevenRecessive p (omega arith)));
-  group-128 = λ h p seen. rw (answered (h ++ (ElevenRecessive ∷ [])), run-as-new (recovered h ElevenRecessive p refl seen));
+  group-128 = λ h p seen. rw (answered (h ++ (ElevenRecessive ∷ [])), run-as-new (recovered h ElevenRecessive p refl (omega (arith, seen))));
 }

@@ -10,7 +10,7 @@ use lib.ListN.{length, take}
 use borrow.Author.Tests.{lt-ltb, le-ltb}
 use Rattle.ledger.specs.declared.event.Event.{Event}
 use Rattle.ledger.specs.declared.event.Event.the-variants.{ElevenRecessive}
-use Rattle.ledger.specs.Numbers.{offAbove, mostGroups}
+use Rattle.ledger.specs.Numbers.{offAbove, recoveryGroups}
 use Rattle.ledger.specs.Rules.{Counts, counts, ledger, new, change, isGroup, grouped, waiting}
 use Rattle.ledger.specs.RulesLaws.{next-on, next-off}
 use Rattle.ledger.specs.History.{run}
@@ -31,24 +31,24 @@ run-counts (e ∷ h) c g calm =
 -- once T has passed 255
 
 module _ (t r : ℕ) where
-  seen : (b : Bool) (g : ℕ) → g + cond b 1 0 ≤ mostGroups → cond b (grouped (ledger t r g)) (ledger t r g) ≡ ledger t r (g + cond b 1 0)
-  seen true g h = rw (lt-ltb g mostGroups (omega arith))
+  seen : (b : Bool) (g : ℕ) → g + cond b 1 0 < recoveryGroups → cond b (grouped (ledger t r g)) (ledger t r g) ≡ ledger t r (g + cond b 1 0)
+  seen true g h = rw (lt-ltb (g + 1) recoveryGroups (omega arith))
   seen false g h = rw (add-zero g)
 
-  run-groups : (h : List Event) (g : ℕ) → offAbove < t → g + groups h ≤ mostGroups → run h (ledger t r g) ≡ ledger t r (g + groups h)
+  run-groups : (h : List Event) (g : ℕ) → offAbove < t → g + groups h < recoveryGroups → run h (ledger t r g) ≡ ledger t r (g + groups h)
   unfolding run waiting
   run-groups [] g off few = rw (add-zero g)
   run-groups (e ∷ h) g off few =
       rw (next-off e (ledger t r g) off, seen (isGroup e) g (omega arith), ← add-assoc g (group e) (groups h))
       (run-groups h (g + group e) off (omega arith))
 
-run-passes : (b c : List Event) → Passes b → groups c ≤ mostGroups → run (b ++ c) new ≡ ledger (T-of b) (R-of b) (groups c)
+run-passes : (b c : List Event) → Passes b → groups c < recoveryGroups → run (b ++ c) new ≡ ledger (T-of b) (R-of b) (groups c)
 run-passes b c p few =
     rw (run-append b c new, run-counts b (counts 0 0) 0 (p .0), run-groups (T-of b) (R-of b) c 0 (p .1) (omega arith), zero-add (groups c))
 
 -- the 128th group
 
-run-back : (b c : List Event) → Passes b → groups c ≡ mostGroups → run (b ++ (c ++ (ElevenRecessive ∷ []))) new ≡ new
+run-back : (b c : List Event) → Passes b → groups c + 1 ≡ recoveryGroups → run (b ++ (c ++ (ElevenRecessive ∷ []))) new ≡ new
 unfolding run waiting
 run-back b c p full =
     rw (
@@ -56,7 +56,7 @@ run-back b c p full =
       run-append (b ++ c) (ElevenRecessive ∷ []) new,
       run-passes b c p (omega arith),
       next-off ElevenRecessive (ledger (T-of b) (R-of b) (groups c)) (p .1),
-      le-ltb (groups c) mostGroups (omega arith),
+      le-ltb (groups c + 1) recoveryGroups (omega arith),
     )
 
 pub run-as-new : {a : List Event} → AsNew a → run a new ≡ new

@@ -10,7 +10,7 @@ use lib.ListN.{length, take, length-append}
 use lib.Seq.{take-append-le, take-all, take-nil}
 use Rattle.ledger.specs.declared.event.Event.{Event}
 use Rattle.ledger.specs.declared.event.Event.the-variants.{ErrorSeen, DominantAfterFlag, FlagErrorAsTransmitter, FlagErrorAsReceiver, ErrorFlagSent, AcknowledgeError, StuffBitOverwritten, SentWell, ReceivedWell, ElevenRecessive}
-use Rattle.ledger.specs.Numbers.{offAbove, mostGroups}
+use Rattle.ledger.specs.Numbers.{offAbove, recoveryGroups}
 use Rattle.ledger.specs.Rules.{isGroup}
 use Rattle.ledger.specs.Cases.{lt-or-le}
 use Rattle.claims.specs.LedgerHistory.{T-of, group, groups, Calm, AsNew, new, recovery, NotPassed, Passed}
@@ -35,7 +35,7 @@ groups-more : (h : List Event) (e : Event) → groups (h ++ (e ∷ [])) ≡ grou
 groups-more [] e = omega arith
 groups-more (d ∷ h) e = rw (groups-more h e) (sym (add-assoc (group d) (groups h) (group e)))
 
-last-group : (b : Bool) (g : ℕ) → g ≤ mostGroups → mostGroups < g + cond b 1 0 → (b ≡ true) × (g ≡ mostGroups)
+last-group : (b : Bool) (g : ℕ) → g < recoveryGroups → recoveryGroups ≤ g + cond b 1 0 → (b ≡ true) × (g + 1 ≡ recoveryGroups)
 last-group true g few over = (refl, omega arith)
 last-group false g few over = absurd (omega arith)
 
@@ -80,7 +80,7 @@ module _ (h : List Event) (e : Event) (p : Passed h) where
   whole-more = rw (p .whole) (simp append-assoc)
 
   -- it waits on,
-  pub still-passed : groups (p .later) + group e ≤ mostGroups → Passed (h ++ (e ∷ []))
+  pub still-passed : groups (p .later) + group e < recoveryGroups → Passed (h ++ (e ∷ []))
   still-passed few = record {
     before = p .before;
     since = p .since;
@@ -92,16 +92,16 @@ module _ (h : List Event) (e : Event) (p : Passed h) where
   }
 
   -- or it has recovered
-  pub recovered : e ≡ ElevenRecessive → groups (p .later) ≡ mostGroups → AsNew (h ++ (e ∷ []))
+  pub recovered : e ≡ ElevenRecessive → groups (p .later) + 1 ≡ recoveryGroups → AsNew (h ++ (e ∷ []))
   recovered is full = rw (whole-more, is) (recovery (p .before) (p .since) (p .later) (p .as-new) (p .passes) full)
 
   passed-more : Split (h ++ (e ∷ []))
   passed-more =
       ⊎-elim
-      (λ over. let (is, full) = last-group (isGroup e) (groups (p .later)) (omega (arith, p .waits)) over in
-      inl (start (recovered (only-eleven e is) full)))
       (λ few. inr (still-passed few))
-      (lt-or-le mostGroups (groups (p .later) + group e))
+      (λ over. let (is, full) = last-group (isGroup e) (groups (p .later)) (p .waits) over in
+      inl (start (recovered (only-eleven e is) full)))
+      (lt-or-le (groups (p .later) + group e) recoveryGroups)
 
 split-on : (h k : List Event) → Split h → Split (h ++ k)
 split-on h [] s = rw (append-nil h) s

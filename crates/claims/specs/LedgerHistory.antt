@@ -7,7 +7,7 @@ use mathlib.Core.List.{List, [], _∷_, _++_}
 use lib.ListN.{length, take}
 use Rattle.ledger.specs.declared.event.Event.{Event}
 use Rattle.ledger.specs.declared.event.Event.the-variants.{ElevenRecessive}
-use Rattle.ledger.specs.Numbers.{offAbove, mostGroups}
+use Rattle.ledger.specs.Numbers.{offAbove, recoveryGroups}
 use Rattle.ledger.specs.Rules.{Counts, counts, change, isGroup}
 
 -- T and R worked out from the events alone, from counts that stood before
@@ -41,7 +41,7 @@ Passes h = ((n : ℕ) → n < length h → T-of (take n h) ≤ offAbove) × (off
 -- a history that leaves the station as new: it is empty, or ends in a recovery. A recovery is the 128th recessive group since T passed 255
 pub data AsNew : List Event → Type 0 where
   new : AsNew []
-  recovery : (a b c : List Event) → AsNew a → Passes b → groups c ≡ mostGroups → AsNew (a ++ (b ++ (c ++ (ElevenRecessive ∷ []))))
+  recovery : (a b c : List Event) → AsNew a → Passes b → groups c + 1 ≡ recoveryGroups → AsNew (a ++ (b ++ (c ++ (ElevenRecessive ∷ []))))
 
 -- T has not passed 255 since the last recovery
 pub record NotPassed (h : List Event) : Type 0 where
@@ -59,4 +59,4 @@ pub record Passed (h : List Event) : Type 0 where
   pub whole : h ≡ before ++ (since ++ later)
   pub as-new : AsNew before
   pub passes : Passes since
-  pub waits : groups later ≤ mostGroups
+  pub waits : groups later < recoveryGroups

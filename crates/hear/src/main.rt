@@ -54,6 +54,7 @@ fn hear(from: Listener, piece: &[u8], first: u64, out: &mut [u8]) -> Listener {
     l
 }
 
+// Nothing says that the input ends, so the loop counts down from a number of pieces that no run uses up.
 fn main() {
     let mut input = io::large_buffer();
     let piece: &mut [u8] = &mut input;

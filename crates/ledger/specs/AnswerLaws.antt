@@ -1,5 +1,5 @@
 -- Laws of the ranges: the test as facts on numbers, and that no event leads out of them.
-use Prim.Native.Nat.{_≤_, _<_}
+use Prim.Native.Nat.{_+_, _≤_, _<_}
 use native.Mathlib.Omega.{arith}
 use mathlib.Core.Path.{_≡_, refl}
 use mathlib.Core.Logic.{⊎-elim}
@@ -8,7 +8,7 @@ use lib.Dec.{leb, eqb}
 use borrow.Author.Tests.{lt-ltb, le-ltb, le-leb, eq-eqb, leb-true, eqb-true}
 use Rattle.ledger.specs.declared.ledger.Ledger.{Ledger}
 use Rattle.ledger.specs.declared.event.Event.{Event}
-use Rattle.ledger.specs.Numbers.{offAbove, receiveHeld, mostTransmit, mostGroups}
+use Rattle.ledger.specs.Numbers.{offAbove, receiveHeld, recoveryGroups, mostTransmit, mostGroups}
 use Rattle.ledger.specs.Cases.{lt-or-le, cond-either}
 use Rattle.ledger.specs.Rules.{isOff, isGroup, waiting, grouped, next, new}
 use Rattle.ledger.specs.RulesLaws.{next-on, next-off, change-le}
@@ -55,9 +55,9 @@ new-ranged = omega arith
 grouped-ranged : (l : Ledger) → offAbove < l .transmit .0 → Ranged l → Ranged (grouped l)
 grouped-ranged l o h =
     ⊎-elim
-    (λ g. simp (lt-ltb (l .groups) mostGroups g) (omega arith))
-    (λ g. simp (le-ltb (l .groups) mostGroups g) new-ranged)
-    (lt-or-le (l .groups) mostGroups)
+    (λ g. simp (lt-ltb (l .groups + 1) recoveryGroups g) (omega arith))
+    (λ g. simp (le-ltb (l .groups + 1) recoveryGroups g) new-ranged)
+    (lt-or-le (l .groups + 1) recoveryGroups)
 
 next-ranged : (e : Event) (l : Ledger) → Ranged l → Ranged (next e l)
 unfolding waiting

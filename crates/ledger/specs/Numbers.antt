@@ -1,5 +1,5 @@
 -- The fault ledger's numbers (01 "The fault ledger", "When the handset says no"), each named once.
-use Prim.Native.Nat.{ℕ, _+_, _-_}
+use Prim.Native.Nat.{ℕ}
 
 -- an event that does not raise a count by 1 raises it by so many
 abbrev pub raise : ℕ
@@ -25,9 +25,9 @@ receivedDownTo = 127
 abbrev pub recoveryGroups : ℕ
 recoveryGroups = 128
 
--- the ranges: T at most 263, R at most 255 (where it is held), recovery groups at most 127
+-- the ranges: T and the recovery groups at most; R, at most where it is held
 abbrev pub mostTransmit : ℕ
-mostTransmit = offAbove + raise
+mostTransmit = 263
 
 abbrev pub mostGroups : ℕ
-mostGroups = recoveryGroups - 1
+mostGroups = 127

@@ -8,7 +8,7 @@ use Rattle.ledger.specs.declared.state.State.{State}
 use Rattle.ledger.specs.declared.state.State.the-variants.{Active, Passive, BusOff}
 use Rattle.ledger.specs.declared.event.Event.{Event}
 use Rattle.ledger.specs.declared.event.Event.the-variants.{ErrorSeen, DominantAfterFlag, FlagErrorAsTransmitter, FlagErrorAsReceiver, ErrorFlagSent, AcknowledgeError, StuffBitOverwritten, SentWell, ReceivedWell, ElevenRecessive}
-use Rattle.ledger.specs.Numbers.{raise, passiveAbove, offAbove, receiveHeld, receivedDownTo, mostGroups}
+use Rattle.ledger.specs.Numbers.{raise, passiveAbove, offAbove, receiveHeld, receivedDownTo, recoveryGroups}
 
 -- T, the transmit count, and R, the receive count
 pub record Counts : Type 0 where
@@ -84,7 +84,7 @@ isGroup ElevenRecessive = true
 
 -- a recessive group when bus-off: the 128th sets T, R and the groups to 0
 abbrev pub grouped : Ledger → Ledger
-grouped l = cond (ltb (l .groups) mostGroups) (ledger (l .transmit .0) (l .receive .0) (l .groups + 1)) new
+grouped l = cond (ltb (l .groups + 1) recoveryGroups) (ledger (l .transmit .0) (l .receive .0) (l .groups + 1)) new
 
 -- when bus-off only recessive groups count and every other event changes nothing
 unfoldable pub waiting : Event → Ledger → Ledger

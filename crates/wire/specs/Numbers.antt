@@ -1,6 +1,6 @@
 -- The numbers of document 01, each named once. The fault ledger and the claims name their own. 0 and 1 as bits, a refusal's number and the
 -- figures of a sample stay as document 01 writes them.
-use Prim.Native.Nat.{ℕ, _+_, _-_, _^_}
+use Prim.Native.Nat.{ℕ}
 
 -- HOW BITS AND FRAMES ARE HELD
 
@@ -20,7 +20,7 @@ r0Noted = 1
 
 -- THE WIRE IMAGE
 
--- how many bits a base identifier has, and the upper part of an extended one; its lower part; the whole of it, 29
+-- how many bits a base identifier has, and the upper part of an extended one; its lower part; the whole of it
 abbrev pub baseWidth : ℕ
 baseWidth = 11
 
@@ -28,7 +28,7 @@ abbrev pub lowerWidth : ℕ
 lowerWidth = 18
 
 abbrev pub extendedWidth : ℕ
-extendedWidth = baseWidth + lowerWidth
+extendedWidth = 29
 
 -- the length code's bits, and a byte's
 abbrev pub codeWidth : ℕ
@@ -78,12 +78,12 @@ intermissionBits = 3
 
 -- WHEN THE HANDSET SAYS NO
 
--- the highest identifiers, 2,047 and 536,870,911
+-- the highest identifiers
 abbrev pub highestBase : ℕ
-highestBase = 2 ^ baseWidth - 1
+highestBase = 2047
 
 abbrev pub highestExtended : ℕ
-highestExtended = 2 ^ extendedWidth - 1
+highestExtended = 536870911
 
 -- the highest length code that is written
 abbrev pub highestWritten : ℕ
