@@ -40,8 +40,9 @@ fn judge(window: &str) -> (Option<(usize, String)>, End) {
     let places: Vec<usize> = (0..sound.len()).filter(|&at| !wire::stuff_bit_follows(&sound[..at])).collect();
     let text: String = places.iter().map(|&at| &sound[at..at + 1]).collect();
 
-    let Some(read) = wire::read(&text) else {
-        return (None, sixth_equal.map_or(End::Cut, |at| End::Trouble(at, "stuff error")));
+    let read = match wire::read(&text) {
+        Some(read) => read,
+        None => return (None, sixth_equal.map_or(End::Cut, |at| End::Trouble(at, "stuff error"))),
     };
     let crc_end = places[read.length - 1] + 1;
     if sixth_equal == Some(crc_end) {
@@ -58,7 +59,7 @@ fn judge(window: &str) -> (Option<(usize, String)>, End) {
         12.. => End::Ready(after + 12),
         _ if clear == tail.len() => End::Cut,
         0..=8 => End::Trouble(after + clear, "form error"),
-        9..=11 => End::Trouble(after + clear, "overload"),
+        _ => End::Trouble(after + clear, "overload"),
     };
     let handed_out = (clear > 8 && read.crc_is_right).then(|| {
         let said = format!("frame {} slot={} noted={}", notation::show(&read.frame), &tail[1..2], read.noted);

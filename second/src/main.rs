@@ -30,10 +30,10 @@ fn output(words: &[&str]) -> Option<Vec<u8>> {
 fn main() {
     let words: Vec<String> = std::env::args().skip(1).collect();
     let words: Vec<&str> = words.iter().map(String::as_str).collect();
-    let Some(bytes) = output(&words) else {
+    let bytes = output(&words).unwrap_or_else(|| {
         eprintln!("usage: second put | hear | count | make put|hear|count SEED COUNT");
         std::process::exit(2);
-    };
+    });
     // A reader that has seen enough may close the pipe.
     let _ = std::io::stdout().write_all(&bytes);
 }

@@ -12,8 +12,9 @@ fn refusal(frame: &Frame) -> Option<u32> {
 }
 
 fn answer(line: &str) -> String {
-    let Some(frame) = notation::parse(line) else {
-        return "not a frame".to_string();
+    let frame = match notation::parse(line) {
+        Some(frame) => frame,
+        None => return "not a frame".to_string(),
     };
     match refusal(&frame) {
         Some(number) => format!("refused {number}"),
