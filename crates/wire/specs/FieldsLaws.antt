@@ -9,7 +9,7 @@ use lib.ListN.{length, length-append}
 use borrow.Author.Tests.{ltb-true}
 use Rattle.wire.specs.declared.idents.Ident.{Ident}
 use Rattle.wire.specs.declared.idents.Ident.the-variants.{Base, Extended}
-use Rattle.wire.specs.Numbers.{room}
+use Rattle.wire.specs.Numbers.{room, byteWidth}
 use Rattle.wire.specs.Bits.{bits}
 use Rattle.wire.specs.BitsLaws.{length-bits, AllBits, all-bits-append, bits-are}
 use Rattle.wire.specs.Stuffing.{Coding, dynamic, Coded, all}
@@ -61,9 +61,9 @@ raw-bits (s ∷ ss) = all-bits-append (bits (s .width) (s .value)) (raw ss) (bit
 
 -- LENGTH
 
-pub length-data : (bs : List ℕ) → length (raw (dataFields bs)) ≡ 8 * length bs
+pub length-data : (bs : List ℕ) → length (raw (dataFields bs)) ≡ byteWidth * length bs
 length-data [] = refl
-length-data (b ∷ bs) = length-append (bits 8 b) (raw (dataFields bs)) ∙ omega (arith, length-bits 8 b, length-data bs)
+length-data (b ∷ bs) = length-append (bits byteWidth b) (raw (dataFields bs)) ∙ omega (arith, length-bits byteWidth b, length-data bs)
 
 -- how many bits a header has behind the start of frame
 abbrev pub headerBits : Ident → ℕ

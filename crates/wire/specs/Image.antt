@@ -21,9 +21,13 @@ body f noted =
 abbrev pub slot : Bool → ℕ
 slot acknowledged = cond acknowledged 0 1
 
--- CRC delimiter, acknowledge slot, acknowledge delimiter, seven end-of-frame bits
+-- acknowledge slot, acknowledge delimiter, seven end-of-frame bits
+abbrev pub behindDelimiter : Bool → List Span
+behindDelimiter acknowledged = bare 1 (slot acknowledged) ∷ bare 1 1 ∷ bare endOfFrameBits (2 ^ endOfFrameBits - 1) ∷ []
+
+-- CRC delimiter, and what is behind it
 abbrev pub ending : Bool → List Span
-ending acknowledged = field 1 1 ∷ bare 1 (slot acknowledged) ∷ bare 1 1 ∷ bare endOfFrameBits (2 ^ endOfFrameBits - 1) ∷ []
+ending acknowledged = field 1 1 ∷ behindDelimiter acknowledged
 
 abbrev pub fields : Received → List Span
 fields r =

@@ -12,15 +12,15 @@ use Rattle.wire.specs.declared.idents.Ident.the-variants.{Base, Extended
 use Rattle.wire.specs.declared.frames.Frame.{Frame}
 use Rattle.wire.specs.declared.frames.Received.{Received}
 use Rattle.wire.specs.declared.runs.Run.{Run}
-use Rattle.wire.specs.Numbers.{crcWidth, longestBase, longestExtended}
+use Rattle.wire.specs.Numbers.{crcWidth, endOfFrameBits, longestBase, longestExtended}
 use Rattle.wire.specs.Bits.{bits}
 use Rattle.wire.specs.BitsLaws.{length-bits, AllBits, all-bits-append}
 use Rattle.wire.specs.Crc.{crc}
 use Rattle.wire.specs.Stuffing.{none, ran, dynamic, plain, Coded, wire, codeFrom, all, stuffFrom}
 use Rattle.wire.specs.StuffingLaws.{wire-append, code-append, code-plain, runAfter, stuff-bits, stuff-length}
-use Rattle.wire.specs.Fields.{Span, field, bare, raw, coded, header, carried, carriedBytes, dataFields}
+use Rattle.wire.specs.Fields.{Span, field, raw, coded, header, carried, carriedBytes, dataFields}
 use Rattle.wire.specs.FieldsLaws.{raw-append, coded-append, Alike, alike-append, coded-alike, header-stuffed, data-stuffed, raw-bits, headerBits, length-header, length-data, carried-le}
-use Rattle.wire.specs.Image.{startOfFrame, body, slot, fields, image}
+use Rattle.wire.specs.Image.{startOfFrame, body, slot, behindDelimiter, fields, image}
 use Rattle.wire.specs.Layout.{done, end, Walker, enter, takes, Got, frames}
 use Rattle.wire.specs.LayoutLaws.{Reads, reads-way}
 use Rattle.wire.specs.FramesLaws.{gotFields, GotIn, frames-told, frames-way}
@@ -39,11 +39,11 @@ gotOf r =
       crc = crc (raw (body (r .frame) (r .noted)));
     }
 
--- acknowledge slot and delimiter, end of frame
+-- the bits behind the CRC delimiter
 abbrev pub closing : Bool → List ℕ
-closing acknowledged = slot acknowledged ∷ 1 ∷ replicate 7 1
+closing acknowledged = slot acknowledged ∷ 1 ∷ replicate endOfFrameBits 1
 
-closing-raw : (t : Bool) → raw (bare 1 (slot t) ∷ bare 1 1 ∷ bare 7 127 ∷ []) ≡ closing t
+closing-raw : (t : Bool) → raw (behindDelimiter t) ≡ closing t
 unfolding bits
 closing-raw true = refl
 closing-raw false = refl
@@ -56,11 +56,11 @@ stuffedBits r = raw (gotFields (gotOf r)) ++ (1 ∷ [])
 abbrev front : Received → List Span
 front r = (startOfFrame ∷ gotFields (gotOf r)) ++ (field 1 1 ∷ [])
 
-fields-split : (r : Received) → fields r ≡ front r ++ (bare 1 (slot (r .acknowledged)) ∷ bare 1 1 ∷ bare 7 127 ∷ [])
+fields-split : (r : Received) → fields r ≡ front r ++ behindDelimiter (r .acknowledged)
 fields-split r =
     let h : List Span = header (r .frame .ident) (r .frame .remote) (r .frame .code) (r .noted) in
     let d : List Span = dataFields (carriedBytes (r .frame)) in
-    regroup startOfFrame h d (field crcWidth (gotOf r .crc)) (field 1 1) (bare 1 (slot (r .acknowledged)) ∷ bare 1 1 ∷ bare 7 127 ∷ [])
+    regroup startOfFrame h d (field crcWidth (gotOf r .crc)) (field 1 1) (behindDelimiter (r .acknowledged))
   where
     regroup : (s : Span) (h d : List Span) (c e : Span) (l : List Span)
         → (s ∷ (h ++ d)) ++ (c ∷ e ∷ l) ≡ ((s ∷ (h ++ (d ++ (c ∷ [])))) ++ (e ∷ [])) ++ l
@@ -87,7 +87,7 @@ begun = ran none 0
 
 pub image-parts : (r : Received) → image r ≡ 0 ∷ (stuffFrom begun (stuffedBits r) ++ closing (r .acknowledged))
 image-parts r =
-    let t : List Span = bare 1 (slot (r .acknowledged)) ∷ bare 1 1 ∷ bare 7 127 ∷ [] in
+    let t : List Span = behindDelimiter (r .acknowledged) in
     let a : List Coded = all dynamic (0 ∷ stuffedBits r) in
     let b : List Coded = all plain (closing (r .acknowledged)) in
     let ca : coded (front r) ≡ a = coded-alike dynamic (front r) (front-stuffed r) ∙ ap (all dynamic) (front-raw r) in
@@ -101,7 +101,7 @@ image-parts r =
 -- EVERY SAMPLE IS A BIT
 
 closing-bits : (t : Bool) → AllBits (closing t)
-closing-bits t = subst AllBits (closing-raw t) (raw-bits (bare 1 (slot t) ∷ bare 1 1 ∷ bare 7 127 ∷ []))
+closing-bits t = subst AllBits (closing-raw t) (raw-bits (behindDelimiter t))
 
 pub image-bits : (r : Received) → AllBits (image r)
 image-bits r =
