@@ -1,6 +1,6 @@
 -- The caution: a frame that the table hands out came from an image, sampled bit after bit right behind ten recessive samples. Only the
 -- sixth end-of-frame bit hands one out, and what its place says of the samples so far is that image.
-use Prim.Native.Nat.{ℕ, _+_, _-_, _<_, _≤_}
+use Prim.Native.Nat.{ℕ, _-_, _<_, _≤_}
 use mathlib.Core.Path.{_≡_, refl, sym, ap, ap₂, subst, _∙_}
 use mathlib.Core.Bool.{Bool, true, false, false≢true}
 use mathlib.Core.List.{List, [], _∷_, _++_, append-assoc}
@@ -81,9 +81,6 @@ module _ (h : List ℕ) (b : ℕ) (r : Received) where
 -- THE FRAME HANDED OUT AND ITS IMAGE
 
 module _ (g : Got) (x : ℕ) (l : GotIn g) (few : x < 2) (right : checks g ≡ true) where
-  abbrev r : Received
-  r = receivedFrom g x
-
   size : length (g .bytes) ≤ room
   size = omega (arith, l .size, carried-le (g .remote) (g .code))
 

@@ -1,6 +1,6 @@
 -- THE CENTRAL LEMMA: an image, heard where a dominant bit is a start of frame, says nothing and then its frame at the last but one
 -- sample. By the definition of an image: stuffed bits of fields, and a closing.
-use Prim.Native.Nat.{ℕ, _+_, _-_}
+use Prim.Native.Nat.{ℕ, _+_}
 use mathlib.Core.Path.{_≡_, refl, sym, ap, ap₂, subst, _∙_}
 use mathlib.Core.Bool.{Bool, true, false, cond}
 use mathlib.Core.List.{List, [], _∷_, _++_, append-nil, append-assoc}
@@ -56,9 +56,6 @@ module _ (s : List ℕ) (b : ℕ) where
   hears-bit : Open (reading s) → Silent (onward s) sent (onward (s ++ sent))
   hears-bit o = go (eqb (ranFrom none s .len) five) refl
     where
-      d : ℕ
-      d = opposite (ranFrom none s .last)
-
       go : (t : Bool) → eqb (ranFrom none s .len) five ≡ t
           → Silent (onward s) (wire (cond t (record { why = stuff; bit = opposite (ranFrom none s .last) } ∷ []) [] ++ (record { why = frame; bit = b } ∷ []))) (onward (s ++ wire (cond t (record { why = stuff; bit = opposite (ranFrom none s .last) } ∷ []) [] ++ (record { why = frame; bit = b } ∷ []))))
       go true e =
@@ -150,9 +147,6 @@ module _ (p : Where) (r : Received) (idle : Idle p) (l : Legal r) where
 
   right : checks got ≡ true
   right = eq-eqb (got .crc) (got .crc) refl
-
-  abbrev heard : Bool → List Said
-  heard t = replicate 7 nothing ++ (handed (receivedFrom got (slot t)) ∷ nothing ∷ [])
 
   pub hears-image : (h : List ℕ) → (saysFrom h p (image r) ≡ reply r) × (whereFrom h p (image r) ≡ intermission 1)
   hears-image h =

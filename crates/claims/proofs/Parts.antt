@@ -1,5 +1,4 @@
 -- Where a field stands: before the CRC, in it, or behind it.
-use Prim.Native.Nat.{_-_}
 use mathlib.Core.Path.{_≡_, refl, sym, _∙_}
 use mathlib.Core.Bool.{true, false, false≢true}
 use Rattle.reader.specs.declared.fields.Field.{Field}

@@ -94,9 +94,6 @@ toGo n (endOfFrame k g a) = 11 - k
 toGo n (intermission k) = 4 - k
 
 module _ (h : List ℕ) where
-  abbrev n′ : ℕ
-  n′ = recessives (h ++ (1 ∷ []))
-
   counted : recessives (h ++ (1 ∷ [])) ≡ recessives h + 1
   counted = recessives-snoc 0 h 1
 

@@ -114,7 +114,7 @@ row h (intermission k) b =
     (cond (ltb k intermissionBits) (trouble overload) (silent (stuffed (0 ∷ []))))
     (cond (ltb k intermissionBits) (silent (intermission (k + 1))) (silent ready))
 
--- over samples that come behind those in h
+-- over samples that come behind those in h; a new listener is waiting, with none before
 abbrev pub whereFrom : List ℕ → Where → List ℕ → Where
 whereFrom h p [] = p
 whereFrom h p (b ∷ bs) = whereFrom (h ++ (b ∷ [])) (row h p b .goes) bs
@@ -122,10 +122,3 @@ whereFrom h p (b ∷ bs) = whereFrom (h ++ (b ∷ [])) (row h p b .goes) bs
 abbrev pub saysFrom : List ℕ → Where → List ℕ → List Said
 saysFrom h p [] = []
 saysFrom h p (b ∷ bs) = row h p b .says ∷ saysFrom (h ++ (b ∷ [])) (row h p b .goes) bs
-
--- a new listener is waiting
-abbrev pub tableWhere : List ℕ → Where
-tableWhere samples = whereFrom [] waiting samples
-
-abbrev pub tableSays : List ℕ → List Said
-tableSays samples = saysFrom [] waiting samples

@@ -1,6 +1,6 @@
 -- Laws of images: an image is a start of frame, the stuffed bits of what is read, and a closing of plain bits; how long it is; and
 -- that bits tell their fields.
-use Prim.Native.Nat.{ℕ, _+_, _-_, _*_, _<_, _≤_}
+use Prim.Native.Nat.{ℕ, _+_, _*_, _≤_}
 use mathlib.Core.Path.{_≡_, refl, sym, ap, ap₂, subst, _∙_}
 use mathlib.Core.Bool.{Bool, true, false}
 use mathlib.Core.List.{List, [], _∷_, _++_, append-assoc}
