@@ -16,13 +16,13 @@ use Rattle.wire.specs.Unstuffing.{unstuffFrom}
 use Rattle.wire.specs.Layout.{Layout, done, part, Got}
 use Rattle.wire.specs.LayoutLaws.{Open}
 use Rattle.reader.specs.Reader.{isDone, tookOf}
-use Rattle.line.specs.declared.places.Place.{Place}
-use Rattle.line.specs.declared.places.Place.the-variants.{Waiting, Ready, Stuffed, AckSlot, AckDelimiter, EndOfFrame, Intermission}
-use Rattle.line.specs.declared.places.Fault.the-variants.{StuffError}
-use Rattle.line.specs.declared.moves.Move.{Move}
-use Rattle.line.specs.declared.moves.Move.the-variants.{Take, Skip, Fail}
+use Rattle.moves.specs.declared.places.Place.{Place}
+use Rattle.moves.specs.declared.places.Place.the-variants.{Waiting, Ready, Stuffed, AckSlot, AckDelimiter, EndOfFrame, Intermission}
+use Rattle.moves.specs.declared.places.Fault.the-variants.{StuffError}
+use Rattle.moves.specs.declared.moves.Move.{Move}
+use Rattle.moves.specs.declared.moves.Move.the-variants.{Take, Skip, Fail}
 use Rattle.line.specs.declared.inframe.InFrame.{InFrame}
-use Rattle.line.specs.Moves.{quietAfter}
+use Rattle.moves.specs.Moves.{quietAfter}
 use Rattle.line.specs.Core.{newFrame, taken, skipped, slotted, at, moveAt, moved}
 use Rattle.listener.specs.declared.listeners.Listener.{Listener}
 use Rattle.listener.specs.declared.answers.Heard.{Heard}

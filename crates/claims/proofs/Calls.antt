@@ -12,8 +12,8 @@ use Rattle.wire.specs.BitsLaws.{AllBits, all-bits-append}
 use Rattle.wire.specs.ImageLaws.{image-bits}
 use Rattle.wire.specs.Image.{image}
 use Rattle.wire.specs.Legal.{Legal}
-use Rattle.line.specs.declared.places.Place.{Place}
-use Rattle.line.specs.declared.places.Place.the-variants.{Ready}
+use Rattle.moves.specs.declared.places.Place.{Place}
+use Rattle.moves.specs.declared.places.Place.the-variants.{Ready}
 use Rattle.line.specs.declared.inframe.InFrame.{InFrame}
 use Rattle.listener.specs.declared.listeners.Listener.{Listener}
 use Rattle.listener.specs.Listener.{newListener, fits, heard}

@@ -12,14 +12,14 @@ use Rattle.wire.specs.declared.frames.Received.{Received}
 use Rattle.wire.specs.Numbers.{idle}
 use Rattle.wire.specs.Image.{image}
 use Rattle.wire.specs.Legal.{Legal}
-use Rattle.line.specs.declared.places.Place.the-variants.{Ready}
+use Rattle.moves.specs.declared.places.Place.the-variants.{Ready}
 use Rattle.listener.specs.declared.listeners.Listener.{Listener}
 use Rattle.listener.specs.declared.answers.Heard.{Heard}
 use Rattle.listener.specs.declared.answers.Found.{Found}
 use Rattle.listener.specs.Listener.{newListener, refused, fits, foundAt, seek, found}
 use Rattle.writer.specs.declared.written.Written.{Written}
-use Rattle.writer.specs.Refusals.{frameRows, frameRefusal, refusal}
-use Rattle.writer.specs.RefusalsLaws.{None, none-exactly}
+use Rattle.refusals.specs.Refusals.{frameRows, frameRefusal, refusal}
+use Rattle.refusals.specs.RefusalsLaws.{None, none-exactly}
 use Rattle.writer.specs.Writer.{wireBits, Outcome, outcome, answer, placed}
 use Rattle.writer.specs.WriterLaws.{rows, refusal-given}
 use Rattle.claims.specs.Answers.{nothing, handed}

@@ -10,9 +10,9 @@ use lib.ListN.{take}
 use borrow.Author.Tests.{le-ltb, ltb-true, ltb-false}
 use Rattle.wire.specs.Bits.{xors}
 use Rattle.wire.specs.Crc.{crcStep}
-use Rattle.line.specs.declared.places.Place.the-variants.{Ready, Intermission}
-use Rattle.line.specs.declared.places.Fault.{Fault}
-use Rattle.line.specs.declared.places.Fault.the-variants.{StuffError, FormError, CrcError, Overload}
+use Rattle.moves.specs.declared.places.Place.the-variants.{Ready, Intermission}
+use Rattle.moves.specs.declared.places.Fault.{Fault}
+use Rattle.moves.specs.declared.places.Fault.the-variants.{StuffError, FormError, CrcError, Overload}
 use Rattle.line.specs.declared.cores.Core.{Core}
 use Rattle.line.specs.declared.cores.Event.{Event}
 use Rattle.line.specs.declared.cores.Event.the-variants.{Keep, Whole, Failed}

@@ -14,8 +14,8 @@ use Rattle.wire.specs.Fields.{carried, carriedBytes, trimmed}
 use Rattle.wire.specs.Image.{image}
 use Rattle.wire.specs.FieldsLaws.{carried-le}
 use Rattle.wire.specs.Legal.{NotedIn, Stored, Legal}
-use Rattle.writer.specs.Refusals.{frameRefusal}
-use Rattle.writer.specs.RefusalsLaws.{ident-fits, code-fits, count-fits}
+use Rattle.refusals.specs.Refusals.{frameRefusal}
+use Rattle.refusals.specs.RefusalsLaws.{ident-fits, code-fits, count-fits}
 use Rattle.writer.specs.Writer.{sentAs}
 use Rattle.claims.specs.ReadBack.{readAs, EightBytes}
 use Rattle.claims.proofs.Frames.{all-bytes, take-bytes, padded-stored}

@@ -7,7 +7,7 @@ use mathlib.Core.List.{List, [], _∷_, _++_, head-eq-of-cons-eq, tail-eq-of-con
 use native.Mathlib.Omega.{arith}
 use lib.ListN.{length, take, replicate, length-append, length-replicate}
 use Rattle.wire.specs.declared.frames.Received.{Received}
-use Rattle.line.specs.declared.places.Fault.the-variants.{StuffError, FormError, CrcError, Overload}
+use Rattle.moves.specs.declared.places.Fault.the-variants.{StuffError, FormError, CrcError, Overload}
 use Rattle.listener.specs.declared.listeners.Listener.{Listener}
 use Rattle.listener.specs.declared.answers.Answer.{Answer}
 use Rattle.listener.specs.declared.answers.Answer.the-variants.{Nothing, Handed, Trouble, Refused}

@@ -5,7 +5,7 @@ use mathlib.Core.List.{List}
 use Rattle.wire.specs.declared.frames.Frame.{Frame}
 use Rattle.wire.specs.ImageLaws.{image-length}
 use Rattle.writer.specs.declared.written.Written.{Written}
-use Rattle.writer.specs.Refusals.{frameRefusal}
+use Rattle.refusals.specs.Refusals.{frameRefusal}
 use Rattle.writer.specs.Exactly.{call-exactly}
 use Rattle.writer.specs.Writer.{wireBits, outcome, answer}
 use Rattle.writer.specs.WriterLaws.{refused-bits, refused-capture, written-bits, capture-placed}

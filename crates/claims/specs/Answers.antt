@@ -1,8 +1,8 @@
 -- What a call of the listener says, in document 01's words. The promises speak of these.
 use Prim.Native.Nat.{ℕ}
 use Rattle.wire.specs.declared.frames.Received.{Received}
-use Rattle.line.specs.declared.places.Fault.{Fault}
-use Rattle.line.specs.declared.places.Fault.the-variants.{StuffError, FormError, CrcError, Overload}
+use Rattle.moves.specs.declared.places.Fault.{Fault}
+use Rattle.moves.specs.declared.places.Fault.the-variants.{StuffError, FormError, CrcError, Overload}
 use Rattle.listener.specs.declared.answers.Answer.{Answer}
 use Rattle.listener.specs.declared.answers.Answer.the-variants.{Nothing, Handed, Trouble, Refused}
 use Rattle.listener.specs.declared.answers.Heard.{Heard}

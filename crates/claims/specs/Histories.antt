@@ -5,8 +5,8 @@ use mathlib.Core.List.{List, [], _∷_, _++_}
 use mathlib.Core.Path.{_≡_}
 use lib.Dec.{ltb}
 use Rattle.wire.specs.Numbers.{intermissionBits}
-use Rattle.line.specs.declared.places.Place.{Place}
-use Rattle.line.specs.declared.places.Place.the-variants.{Waiting, Ready, Stuffed, AckSlot, AckDelimiter, EndOfFrame, Intermission}
+use Rattle.moves.specs.declared.places.Place.{Place}
+use Rattle.moves.specs.declared.places.Place.the-variants.{Waiting, Ready, Stuffed, AckSlot, AckDelimiter, EndOfFrame, Intermission}
 use Rattle.listener.specs.declared.listeners.Listener.{Listener}
 use Rattle.listener.specs.Listener.{newListener, heard}
 use Rattle.claims.specs.Answers.{Said, nothing, handed, stuffError, formError, crcError, overload, refused, said}

@@ -11,10 +11,10 @@ use Rattle.wire.specs.Image.{image}
 use Rattle.wire.specs.ImageLaws.{longest}
 use Rattle.wire.specs.Legal.{Legal}
 use Rattle.writer.specs.declared.written.Written.{Written}
-use Rattle.writer.specs.Refusals.{frameRefusal}
+use Rattle.refusals.specs.Refusals.{frameRefusal}
 use Rattle.writer.specs.Exactly.{Exactly}
 use Rattle.writer.specs.Writer.{sentAs, outcome, answer}
-use Rattle.line.specs.declared.places.Place.the-variants.{Ready}
+use Rattle.moves.specs.declared.places.Place.the-variants.{Ready}
 use Rattle.listener.specs.declared.listeners.Listener.{Listener}
 use Rattle.listener.specs.Listener.{newListener, fits, heard}
 use Rattle.ledger.specs.declared.ledger.Ledger.{Ledger}

@@ -10,16 +10,16 @@ use Rattle.reader.specs.declared.fields.Field.{Field}
 use Rattle.reader.specs.declared.readers.Reader.{Reader}
 use Rattle.reader.specs.declared.readers.Kept.the-variants.{NoByte}
 use Rattle.reader.specs.Reader.{newReader, isDone, isSummed, tookOf}
-use Rattle.line.specs.declared.places.Place.{Place}
-use Rattle.line.specs.declared.places.Place.the-variants.{Waiting, Ready, Stuffed, AckSlot, AckDelimiter, EndOfFrame, Intermission}
-use Rattle.line.specs.declared.moves.Move.{Move}
-use Rattle.line.specs.declared.moves.Move.the-variants.{Go, Begin, Take, Skip, Slot, HandOut, Fail}
+use Rattle.moves.specs.declared.places.Place.{Place}
+use Rattle.moves.specs.declared.places.Place.the-variants.{Waiting, Ready, Stuffed, AckSlot, AckDelimiter, EndOfFrame, Intermission}
+use Rattle.moves.specs.declared.moves.Move.{Move}
+use Rattle.moves.specs.declared.moves.Move.the-variants.{Go, Begin, Take, Skip, Slot, HandOut, Fail}
 use Rattle.line.specs.declared.inframe.InFrame.{InFrame}
 use Rattle.line.specs.declared.cores.Core.{Core}
 use Rattle.line.specs.declared.cores.Event.{Event}
 use Rattle.line.specs.declared.cores.Event.the-variants.{Keep, Whole, Failed}
 use Rattle.line.specs.declared.cores.Stepped.{Stepped}
-use Rattle.line.specs.Moves.{quietAfter, whenWaiting, whenReady, whenStuffed, whenAckDelimiter, whenEndOfFrame, whenIntermission}
+use Rattle.moves.specs.Moves.{quietAfter, whenWaiting, whenReady, whenStuffed, whenAckDelimiter, whenEndOfFrame, whenIntermission}
 
 -- WHAT IS KEPT OF A FRAME
 

@@ -1,4 +1,3 @@
-pub mod Moves
 pub mod Core
 pub mod Ranges
 pub mod RangesLaws

@@ -6,9 +6,7 @@ use native.Mathlib.Omega.{arith}
 use lib.Dec.{eqb, ltb, lit<}
 use borrow.Author.Tests.{ltb-true, lt-ltb}
 use Rattle.wire.specs.declared.runs.Run.{Run}
-use Rattle.wire.specs.declared.runs.Sampled.{Sampled}
-use Rattle.wire.specs.declared.runs.Sampled.the-variants.{FrameBit, StuffBit, SixthEqual}
-use Rattle.wire.specs.Numbers.{five, crcWidth, crcGenerator, endOfFrameBits, idle, handOutBit, intermissionBits}
+use Rattle.wire.specs.Numbers.{five, crcWidth, crcGenerator, endOfFrameBits, idle}
 use Rattle.wire.specs.Crc.{crcStep}
 use Rattle.wire.specs.CrcLaws.{crc-step-lt}
 use Rattle.wire.specs.Stuffing.{ran}
@@ -16,16 +14,17 @@ use Rattle.wire.specs.Unstuffing.{sampledAs}
 use Rattle.reader.specs.Reader.{isDone, isSummed}
 use Rattle.reader.specs.Ranges.{readerFits}
 use Rattle.reader.specs.RangesLaws.{and-true, true-and, fits-took}
-use Rattle.line.specs.declared.places.Place.{Place}
-use Rattle.line.specs.declared.places.Place.the-variants.{Waiting, Ready, Stuffed, AckSlot, AckDelimiter, EndOfFrame, Intermission}
-use Rattle.line.specs.declared.places.Fault.the-variants.{FormError, CrcError, Overload}
-use Rattle.line.specs.declared.moves.Move.{Move}
-use Rattle.line.specs.declared.moves.Move.the-variants.{Go, Begin, Take, Skip, Slot, HandOut, Fail}
+use Rattle.moves.specs.declared.places.Place.{Place}
+use Rattle.moves.specs.declared.places.Place.the-variants.{Waiting, Ready, Stuffed, AckSlot, AckDelimiter, EndOfFrame, Intermission}
+use Rattle.moves.specs.declared.moves.Move.{Move}
+use Rattle.moves.specs.declared.moves.Move.the-variants.{Go, Begin, Take, Skip, Slot, HandOut, Fail}
 use Rattle.line.specs.declared.inframe.InFrame.{InFrame}
 use Rattle.line.specs.declared.cores.Core.{Core}
-use Rattle.line.specs.Moves.{quietAfter, whenDelimiter, whenStuffed, whenEndOfFrame, whenIntermission}
+use Rattle.moves.specs.Moves.{quietAfter}
+use Rattle.moves.specs.MovesLaws.{MoveFits, quiet-lt, waiting-fits, ready-fits, stuffed-fits, ack-delimiter-fits, end-of-frame-fits, intermission-fits}
+use Rattle.moves.specs.Ranges.{placeFits}
 use Rattle.line.specs.Core.{newFrame, taken, skipped, slotted, at, newCore, moveAt, moved, stepped}
-use Rattle.line.specs.Ranges.{placeFits, runFits, frameFits, coreFits}
+use Rattle.line.specs.Ranges.{runFits, frameFits, coreFits}
 
 -- WHAT IS KEPT OF A FRAME
 
@@ -70,63 +69,16 @@ module _ (f : InFrame) (b : ℕ) (bit : b < 2) (i : FrameIn f) where
 pub new-in : FrameIn newFrame
 new-in = frame-in newFrame refl
 
--- MOVES
-
-pub quiet-lt : (q b : ℕ) → quietAfter q b < idle + 1
-quiet-lt q b = go (eqb b 0) (ltb q idle) refl
-  where
-    go : (t s : Bool) → ltb q idle ≡ s → cond t 0 (cond s (q + 1) idle) < idle + 1
-    go true s e = lit< tt
-    go false true e = omega (arith, ltb-true q idle e)
-    go false false e = lit< tt
-
--- the place that a move names is within its range, wherever it is decided
-abbrev MoveFits : Move → Type 0
-MoveFits (Go p) = placeFits p ≡ true
-MoveFits Begin = Unit {0}
-MoveFits Take = Unit {0}
-MoveFits Skip = Unit {0}
-MoveFits Slot = Unit {0}
-MoveFits HandOut = Unit {0}
-MoveFits (Fail x) = Unit {0}
-
-either : (t : Bool) (m n : Move) → MoveFits m → MoveFits n → MoveFits (cond t m n)
-either true m n p q = p
-either false m n p q = q
-
-stuffed-fits : (x : Sampled) (done : Bool) (b : ℕ) → MoveFits (whenStuffed x done b)
-stuffed-fits FrameBit done b = either done (whenDelimiter b) Take (either (eqb b 0) (Fail FormError) (Go AckSlot) tt refl) tt
-stuffed-fits StuffBit done b = tt
-stuffed-fits SixthEqual done b = tt
-
-end-fits : (k b : ℕ) → MoveFits (whenEndOfFrame k b)
-end-fits k b = go (eqb b 0) (ltb k handOutBit) refl
-  where
-    go : (t s : Bool) → ltb k handOutBit ≡ s → MoveFits (cond t (cond (ltb k endOfFrameBits) (Fail FormError) (Fail Overload)) (cond s (Go (EndOfFrame (k + 1))) (cond (eqb k handOutBit) HandOut (Go (Intermission 1)))))
-    go true s e = either (ltb k endOfFrameBits) (Fail FormError) (Fail Overload) tt tt
-    go false true e = and-true (lt-ltb 0 (k + 1) (omega arith)) (lt-ltb (k + 1) (endOfFrameBits + 1) (omega (arith, ltb-true k handOutBit e)))
-    go false false e = either (eqb k handOutBit) HandOut (Go (Intermission 1)) tt refl
-
-intermission-fits : (k b : ℕ) → MoveFits (whenIntermission k b)
-intermission-fits k b = go (eqb b 0) (ltb k intermissionBits) refl
-  where
-    go : (t s : Bool) → ltb k intermissionBits ≡ s → MoveFits (cond t (cond s (Fail Overload) Begin) (cond s (Go (Intermission (k + 1))) (Go Ready)))
-    go true s e = either s (Fail Overload) Begin tt tt
-    go false true e = and-true (lt-ltb 0 (k + 1) (omega arith)) (lt-ltb (k + 1) (intermissionBits + 1) (omega (arith, ltb-true k intermissionBits e)))
-    go false false e = refl
+-- THE CORE
 
 move-fits : (p : Place) (f : InFrame) (b q : ℕ) → MoveFits (moveAt p f b q)
-move-fits Waiting f b q = either (ltb q idle) (Go Waiting) (Go Ready) refl refl
-move-fits Ready f b q = either (eqb b 0) Begin (Go Ready) tt refl
+move-fits Waiting f b q = waiting-fits q
+move-fits Ready f b q = ready-fits b
 move-fits Stuffed f b q = stuffed-fits (sampledAs (f .run) b) (isDone (f .reader .field)) b
 move-fits AckSlot f b q = tt
-move-fits AckDelimiter f b q =
-    either (eqb b 0) (Fail FormError) (cond (eqb (f .crc) (f .reader .registers .crc)) (Go (EndOfFrame 1)) (Fail CrcError)) tt
-    (either (eqb (f .crc) (f .reader .registers .crc)) (Go (EndOfFrame 1)) (Fail CrcError) refl tt)
-move-fits (EndOfFrame k) f b q = end-fits k b
+move-fits AckDelimiter f b q = ack-delimiter-fits b (f .crc) (f .reader .registers .crc)
+move-fits (EndOfFrame k) f b q = end-of-frame-fits k b
 move-fits (Intermission k) f b q = intermission-fits k b
-
--- THE CORE
 
 core-fits : (p : Place) (q : ℕ) (f : InFrame) → q < idle + 1 → placeFits p ≡ true → FrameIn f → coreFits (at p q f) ≡ true
 core-fits p q f h e i = and-true (and-true (lt-ltb q (idle + 1) h) e) (in-frame f i)

@@ -1,15 +1,15 @@
 // The core, one sample at a time: decide, then act.
 use crate::inframe::InFrame;
-use crate::moves::Move;
-use crate::moves::quiet_after;
-use crate::moves::when_ack_delimiter;
-use crate::moves::when_end_of_frame;
-use crate::moves::when_intermission;
-use crate::moves::when_ready;
-use crate::moves::when_stuffed;
-use crate::moves::when_waiting;
-use crate::places::Fault;
-use crate::places::Place;
+use moves::Fault;
+use moves::Move;
+use moves::Place;
+use moves::moves::quiet_after;
+use moves::moves::when_ack_delimiter;
+use moves::moves::when_end_of_frame;
+use moves::moves::when_intermission;
+use moves::moves::when_ready;
+use moves::moves::when_stuffed;
+use moves::moves::when_waiting;
 use reader::Kept;
 ghost use mathlib.Core.Path.{_≡_};
 ghost use Rattle.line.specs.Core.{newCore, moveAt, told, nothing, takeMove, moved, stepped};

@@ -10,7 +10,7 @@ use Rattle.line.specs.declared.cores.Core.{Core}
 use Rattle.line.specs.declared.cores.Event.{Event}
 use Rattle.line.specs.declared.cores.Event.the-variants.{Keep, Whole, Failed}
 use Rattle.line.specs.declared.cores.Stepped.{Stepped}
-use Rattle.line.specs.declared.places.Fault.{Fault}
+use Rattle.moves.specs.declared.places.Fault.{Fault}
 use Rattle.line.specs.Core.{stepped}
 use Rattle.line.specs.Ranges.{coreFits}
 use Rattle.line.specs.RangesLaws.{fits-step}

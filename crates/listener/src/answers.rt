@@ -2,7 +2,7 @@
 use crate::listeners::Listener;
 use crate::received::blank;
 use line::Core;
-use line::Fault;
+use moves::Fault;
 use wire::Received;
 use wire::frames::ROOM;
 ghost use mathlib.Core.Path.{_≡_};

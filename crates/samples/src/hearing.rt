@@ -2,10 +2,10 @@
 use crate::frames::frame;
 use crate::images::ELEVEN;
 use crate::words::Words;
-use line::Fault;
-use line::Place;
 use listener::Answer;
 use listener::Listener;
+use moves::Fault;
+use moves::Place;
 use wire::Received;
 
 pub(crate) struct Hearing {

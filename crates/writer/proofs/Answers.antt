@@ -1,45 +1,24 @@
--- Laws shaped like what the code's branches leave to show: which refusal, and what a call of the writer answers.
-use Prim.Native.Nat.{ℕ, _+_, _-_, _≤_, _<_}
-use mathlib.Core.Path.{_≡_, refl, ap, _∙_}
-use mathlib.Core.Bool.{Bool, true, false, cond}
+-- Laws shaped like what the branches of `write` leave to show: what a call of the writer answers.
+use Prim.Native.Nat.{ℕ, _+_, _-_, _≤_}
+use mathlib.Core.Path.{_≡_, refl, sym, ap, _∙_}
+use mathlib.Core.Bool.{cond}
 use mathlib.Core.List.{List, _++_, append-assoc, append-nil}
 use native.Mathlib.Nat.{zero-add, sub-zero}
 use native.Mathlib.Omega.{arith}
 use lib.Dec.{eqb}
 use lib.ListN.{length, take, drop, length-drop, drop-of-length-le}
 use lib.Seq.{sets, sets-eq, length-sets, take-all, take-at, drop-drop}
-use borrow.Author.Tests.{eq-eqb, ne-eqb, lt-ltb, le-ltb}
+use borrow.Author.Tests.{eq-eqb, ne-eqb}
 use Rattle.wire.specs.declared.frames.Frame.{Frame}
 use Rattle.wire.specs.Numbers.{longestExtended}
 use Rattle.writer.specs.declared.pen.Pen.{Pen}
-use Rattle.writer.specs.Refusals.{tooLarge, miscounted, first, placeRows, frameRefusal, refusal}
+use Rattle.refusals.specs.Refusals.{frameRefusal, placeRefusal, refusal}
+use Rattle.refusals.specs.RefusalsLaws.{start-fits, bits-fit}
 use Rattle.writer.specs.Writer.{wireBits, outcome, refused, answer}
 use Rattle.writer.specs.WriterLaws.{refusal-first}
 use Rattle.writer.specs.Pages.{Page, page, marks, newPen}
 use Rattle.writer.specs.PagesLaws.{marks-at, marks-out}
 use Rattle.writer.specs.LengthLaws.{sent-length}
-
--- A FRAME'S OWN REFUSAL
-
-module _ (f : Frame) (large : Bool) (e : large ≡ tooLarge (f .ident)) where
-  pub refuses-1 : large ≡ true → 1 ≡ frameRefusal f
-  unfolding frameRefusal
-  refuses-1 a = rw (← e, a)
-
-  pub refuses-2 : large ≡ false → 8 < f .code → 2 ≡ frameRefusal f
-  unfolding frameRefusal
-  refuses-2 a b = rw (← e, a, lt-ltb 8 (f .code) b)
-
-  module _ (off : Bool) (d : off ≡ miscounted (f .remote) (f .code) (f .count)) where
-    pub refuses-3 : large ≡ false → f .code ≤ 8 → off ≡ true → 3 ≡ frameRefusal f
-    unfolding frameRefusal
-    refuses-3 a b c = rw (← e, a, le-ltb 8 (f .code) b, ← d, c)
-
-    pub refuses-none : large ≡ false → f .code ≤ 8 → off ≡ false → 0 ≡ frameRefusal f
-    unfolding frameRefusal
-    refuses-none a b c = rw (← e, a, le-ltb 8 (f .code) b, ← d, c)
-
--- THE WRITER'S ANSWER
 
 -- a part from i to the end, when it is back
 middle : (c v : List ℕ) (i : ℕ) → i ≤ length c → length v ≤ length c - i
@@ -57,43 +36,43 @@ middle c v i h l =
     )
 
 module _ (f : Frame) (c : List ℕ) (start no : ℕ) (own : no ≡ frameRefusal f) where
-  refusal-by : refusal f (length (wireBits f)) (length c) start ≡ cond (eqb no 0) (first (placeRows (length (wireBits f)) (length c) start)) no
+  refusal-by : refusal f (length (wireBits f)) (length c) start ≡ cond (eqb no 0) (placeRefusal (length (wireBits f)) (length c) start) no
   refusal-by = rw own (refusal-first f c start)
 
   pub answer-frame : (no ≡ 0 → ⊥) → refused no c ≡ answer f c start
   unfolding answer
   answer-frame h = rw (refusal-by, ne-eqb no 0 h, ne-eqb no 0 h)
 
-  module _ (z : no ≡ 0) where
-    pub answer-4 : length c < start → refused 4 c ≡ answer f c start
-    unfolding answer
-    answer-4 h = rw (refusal-by, eq-eqb no 0 z, lt-ltb (length c) start h)
+  -- the image is drawn in a local array that has room for it
+  module _ (z : no ≡ 0) (blank drawn : List ℕ) (pen : Pen) (size : length blank ≡ longestExtended) (all : page drawn pen ≡ marks (page blank newPen) (wireBits f)) where
+    pub measured : pen .at ≡ length (wireBits f)
+    measured = ap (λ (s : Page). s .pen .at) all ∙ marks-at (page blank newPen) (wireBits f) (omega (arith, sent-length f)) ∙ zero-add (length (wireBits f))
 
-    -- the image is drawn in a local array that has room for it
-    module _ (blank drawn : List ℕ) (pen : Pen) (size : length blank ≡ longestExtended) (all : page drawn pen ≡ marks (page blank newPen) (wireBits f)) where
-      pub measured : pen .at ≡ length (wireBits f)
-      measured = ap (λ (s : Page). s .pen .at) all ∙ marks-at (page blank newPen) (wireBits f) (omega (arith, sent-length f)) ∙ zero-add (length (wireBits f))
+    built : drawn ≡ sets blank 0 (wireBits f)
+    built = ap (λ (s : Page). s .out) all ∙ marks-out (page blank newPen) (wireBits f) (omega (arith, sent-length f))
 
-      built : drawn ≡ sets blank 0 (wireBits f)
-      built = ap (λ (s : Page). s .out) all ∙ marks-out (page blank newPen) (wireBits f) (omega (arith, sent-length f))
+    pub fits-local : pen .at ≤ length drawn
+    fits-local = rw (built, length-sets) (omega (arith, measured, sent-length f))
 
-      pub fits-local : pen .at ≤ length drawn
-      fits-local = rw (built, length-sets) (omega (arith, measured, sent-length f))
+    whole : take (pen .at - 0) drawn ≡ wireBits f
+    whole =
+        rw (measured, sub-zero, built, sets-eq (wireBits f) blank 0 (omega (arith, sent-length f)))
+        (take-at (wireBits f) (drop (0 + length (wireBits f)) blank) (length (wireBits f)) refl)
 
-      whole : take (pen .at - 0) drawn ≡ wireBits f
-      whole =
-          rw (measured, sub-zero, built, sets-eq (wireBits f) blank 0 (omega (arith, sent-length f)))
-          (take-at (wireBits f) (drop (0 + length (wireBits f)) blank) (length (wireBits f)) refl)
+    module _ (misplaced : ℕ) (told : misplaced ≡ placeRefusal (pen .at) (length c) start) where
+      refusal-is : refusal f (length (wireBits f)) (length c) start ≡ misplaced
+      refusal-is = rw (refusal-by, eq-eqb no 0 z, ← measured) (sym told)
 
-      pub answer-5 : start ≤ length c → length c - start < pen .at → refused 5 c ≡ answer f c start
+      pub answer-misplaced : (misplaced ≡ 0 → ⊥) → refused misplaced c ≡ answer f c start
       unfolding answer
-      answer-5 h l =
-          rw (refusal-by, eq-eqb no 0 z, le-ltb (length c) start h, lt-ltb (length c - start) (length (wireBits f)) (omega (arith, measured)))
+      answer-misplaced h = rw (refusal-is, ne-eqb misplaced 0 h)
 
-      pub answer-0 : (part : List ℕ) → start ≤ length c → pen .at ≤ length c - start
+      pub answer-placed : (part : List ℕ) → misplaced ≡ 0
           → part ≡ sets (take (length c - start) (drop start c)) 0 (take (pen .at - 0) (drop 0 drawn))
           → outcome (record { refusal = 0; bits = pen .at }) (take start c ++ (part ++ drop (length c - start) (drop start c))) ≡ answer f c start
       unfolding answer
-      answer-0 part h l e =
-          rw (refusal-by, eq-eqb no 0 z, le-ltb (length c) start h, le-ltb (length c - start) (length (wireBits f)) (omega (arith, measured)))
-          (rw (e, whole, middle c (wireBits f) start h (omega (arith, measured)), measured))
+      answer-placed part n e =
+          let inside = start-fits (pen .at) (length c) start misplaced told n in
+          let room = bits-fit (pen .at) (length c) start misplaced told n in
+          rw (refusal-is, eq-eqb misplaced 0 n)
+          (rw (e, whole, middle c (wireBits f) start inside (omega (arith, room, measured)), measured))

@@ -18,8 +18,8 @@ use Rattle.wire.specs.Stuffing.{none, Coded, dynamic, plain, wire, codeFrom, al
 use Rattle.wire.specs.Fields.{Span, field, raw, coded, rtr, header, carried, carriedBytes, dataFields}
 use Rattle.wire.specs.Image.{startOfFrame, ending}
 use Rattle.writer.specs.declared.draft.Draft.{Draft}
-use Rattle.writer.specs.Refusals.{frameRefusal}
-use Rattle.writer.specs.RefusalsLaws.{ident-fits, code-fits}
+use Rattle.refusals.specs.Refusals.{frameRefusal}
+use Rattle.refusals.specs.RefusalsLaws.{ident-fits, code-fits}
 use Rattle.writer.specs.Writer.{wireBits}
 use Rattle.writer.specs.Pages.{Page, page, newPen, newDraft, marks, drawn, Sheet, sheet, laid, closed, framed, headFields}
 use Rattle.writer.specs.PagesLaws.{drawn-append, laid-append}

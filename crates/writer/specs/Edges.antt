@@ -6,7 +6,7 @@ use native.Mathlib.Omega.{arith}
 use lib.ListN.{length}
 use borrow.Author.Tests.{lt-ltb, le-ltb}
 use Rattle.wire.specs.declared.frames.Frame.{Frame}
-use Rattle.writer.specs.Refusals.{frameRefusal, refusal}
+use Rattle.refusals.specs.Refusals.{frameRefusal, refusal}
 use Rattle.writer.specs.Writer.{wireBits}
 use Rattle.writer.specs.WriterLaws.{refusal-first}
 use Rattle.writer.specs.LengthLaws.{sent-some}

@@ -6,8 +6,8 @@ use mathlib.Core.Bool.{true}
 use mathlib.Core.List.{List, [], _∷_, _++_}
 use lib.ListN.{length}
 use Rattle.wire.specs.declared.frames.Frame.{Frame}
-use Rattle.writer.specs.Refusals.{Row, row, tooLarge, overlong, miscounted, outside, overflows, frameRows, refusal}
-use Rattle.writer.specs.RefusalsLaws.{None, given-exactly, none-exactly}
+use Rattle.refusals.specs.Refusals.{Row, row, tooLarge, overlong, miscounted, outside, overflows, frameRows, refusal}
+use Rattle.refusals.specs.RefusalsLaws.{None, given-exactly, none-exactly}
 use Rattle.writer.specs.declared.written.Written.{Written}
 use Rattle.writer.specs.Writer.{wireBits, outcome, answer}
 use Rattle.writer.specs.WriterLaws.{rows, refusal-given}

@@ -1,5 +1,3 @@
-pub mod Refusals
-pub mod RefusalsLaws
 pub mod Writer
 pub mod WriterLaws
 pub mod Exactly

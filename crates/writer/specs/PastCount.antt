@@ -8,8 +8,8 @@ use lib.ListN.{take}
 use borrow.Author.Tests.{eqb-true}
 use Rattle.wire.specs.declared.frames.Frame.{Frame}
 use Rattle.wire.specs.Fields.{carriedBytes}
-use Rattle.writer.specs.Refusals.{frameRefusal, refusal}
-use Rattle.writer.specs.RefusalsLaws.{count-fits}
+use Rattle.refusals.specs.Refusals.{frameRefusal, refusal}
+use Rattle.refusals.specs.RefusalsLaws.{count-fits}
 use Rattle.writer.specs.Writer.{wireBits, answer}
 use Rattle.writer.specs.WriterLaws.{refusal-first}
 

@@ -8,7 +8,7 @@ use Rattle.wire.specs.declared.frames.Frame.{Frame}
 use Rattle.wire.specs.declared.frames.Received.{Received}
 use Rattle.wire.specs.Image.{image}
 use Rattle.writer.specs.declared.written.Written.{Written}
-use Rattle.writer.specs.Refusals.{refusal}
+use Rattle.refusals.specs.Refusals.{refusal}
 
 -- a frame as it is sent: SRR 1, r1 0, r0 0 and the slot 1
 abbrev pub sentAs : Frame → Received

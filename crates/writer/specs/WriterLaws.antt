@@ -10,8 +10,8 @@ use lib.Seq.{getD-append-add, getD-take, getD-drop, length-take-le}
 use borrow.Author.Tests.{eq-eqb, ne-eqb, eqb-true, eqb-false, ltb-false}
 use Rattle.wire.specs.declared.frames.Frame.{Frame}
 use Rattle.writer.specs.declared.written.Written.{Written}
-use Rattle.writer.specs.Refusals.{Row, first, frameRows, placeRows, frameRefusal, refusal}
-use Rattle.writer.specs.RefusalsLaws.{none-exactly, first-append}
+use Rattle.refusals.specs.Refusals.{Row, frameRows, placeRows, frameRefusal, placeRefusal, refusal}
+use Rattle.refusals.specs.RefusalsLaws.{none-exactly, first-append}
 use Rattle.writer.specs.Writer.{wireBits, Outcome, outcome, refused, placed, answer}
 
 module _ (f : Frame) (c : List ℕ) (start : ℕ) where
@@ -23,7 +23,7 @@ module _ (f : Frame) (c : List ℕ) (start : ℕ) where
   no = refusal f (length (wireBits f)) (length c) start
 
   -- by the frame's own refusal first
-  pub refusal-first : no ≡ cond (eqb (frameRefusal f) 0) (first (placeRows (length (wireBits f)) (length c) start)) (frameRefusal f)
+  pub refusal-first : no ≡ cond (eqb (frameRefusal f) 0) (placeRefusal (length (wireBits f)) (length c) start) (frameRefusal f)
   unfolding refusal frameRefusal
   refusal-first = first-append (frameRows f) (placeRows (length (wireBits f)) (length c) start) refl
 

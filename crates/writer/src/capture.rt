@@ -1,7 +1,8 @@
 // The public call: the whole capture and a start position, both checked.
 use crate::image::draw;
-use crate::refusals::frame_refusal;
 use crate::written::Written;
+use refusals::frame_refusal;
+use refusals::place_refusal;
 use wire::Frame;
 ghost use mathlib.Core.Path.{_≡_};
 ghost use Prim.Native.Nat.{_≤_};
@@ -35,18 +36,13 @@ pub fn write(frame: Frame, capture: &mut [u8], start: usize) -> Written
             bits: 0,
         };
     }
-    if capture.len() < start {
-        return Written {
-            refusal: 4,
-            bits: 0,
-        };
-    }
     let mut image = [0u8; LONGEST];
     let pen = draw(frame, &mut image);
     let bits = pen.at;
-    if capture.len() - start < bits {
+    let misplaced = place_refusal(bits, capture.len(), start);
+    if misplaced != 0 {
         return Written {
-            refusal: 5,
+            refusal: misplaced,
             bits: 0,
         };
     }

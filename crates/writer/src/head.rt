@@ -5,7 +5,7 @@ ghost use mathlib.Core.Path.{_≡_};
 ghost use Prim.Native.Nat.{_≤_};
 ghost use Rattle.wire.specs.Bits.{bits};
 ghost use Rattle.wire.specs.Fields.{raw, rtr};
-ghost use Rattle.writer.specs.Refusals.{frameRefusal};
+ghost use Rattle.refusals.specs.Refusals.{frameRefusal};
 ghost use Rattle.writer.specs.Pages.{headFields};
 
 // How many lower parts an extended identifier can have: 2 to the 18th.

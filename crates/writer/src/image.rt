@@ -9,7 +9,7 @@ ghost use mathlib.Core.Path.{_≡_};
 ghost use mathlib.Core.List.{_++_};
 ghost use Rattle.wire.specs.Bits.{bits};
 ghost use Rattle.wire.specs.Fields.{raw, dataFields};
-ghost use Rattle.writer.specs.Refusals.{frameRefusal};
+ghost use Rattle.refusals.specs.Refusals.{frameRefusal};
 ghost use Rattle.writer.specs.Writer.{wireBits};
 ghost use Rattle.writer.specs.Pages.{newPen, page, marks, framed};
 

@@ -5,7 +5,6 @@ mod draft;
 mod head;
 mod image;
 mod pen;
-mod refusals;
 mod written;
 
 pub use capture::write;

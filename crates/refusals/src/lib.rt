@@ -1,0 +1,6 @@
+// When the handset says no to a frame: refusals 1 to 3 of the frame by itself, 4 and 5 of where its image is to stand.
+mod frame;
+mod place;
+
+pub use frame::frame_refusal;
+pub use place::place_refusal;
