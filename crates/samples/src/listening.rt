@@ -30,7 +30,7 @@ pub(crate) fn code_15(tally: Tally) -> Tally {
     )
 }
 
-fn ready(tally: Tally) -> Tally {
+pub(crate) fn ready(tally: Tally) -> Tally {
     tally
         .sample(
             b"a new listener hears ten recessive samples, then an image",
@@ -44,7 +44,7 @@ fn ready(tally: Tally) -> Tally {
         )
 }
 
-fn between(tally: Tally) -> Tally {
+pub(crate) fn between(tally: Tally) -> Tally {
     tally
         .sample(
             b"an image, two recessive bits, an image",
@@ -56,8 +56,4 @@ fn between(tally: Tally) -> Tally {
             with_between(b"1"),
             b"base data frame 000, code 0, no bytes, then overload",
         )
-}
-
-pub(crate) fn lines(tally: Tally) -> Tally {
-    between(ready(tally))
 }

@@ -12,19 +12,16 @@ mod writing;
 
 use tally::Tally;
 
-// The edges of what is written and read.
-fn edges(t: Tally) -> Tally {
-    let t = writing::identifiers(t);
-    let t = writing::codes(t);
-    let t = listening::code_15(t);
-    writing::captures(t)
-}
-
 // In document 01's order ("Samples to try").
 fn main() {
-    let t = edges(Tally::new());
-    let t = listening::lines(t);
+    let t = writing::identifiers(Tally::new());
+    let t = writing::codes(t);
+    let t = listening::code_15(t);
+    let t = writing::captures(t);
+    let t = listening::ready(t);
+    let t = listening::between(t);
     let t = counting::groups(t);
-    let t = searched::frames(t);
+    let t = searched::ends_dominant(t);
+    let t = searched::ends_recessive(t);
     t.print();
 }

@@ -48,7 +48,7 @@ fn written_and_read(tally: Tally, name: &[u8], frame: Frame, image: &[u8], read:
         .sample(b"read that image back", heard(&capture, bits), read)
 }
 
-fn ends_dominant(tally: Tally) -> Tally {
+pub(crate) fn ends_dominant(tally: Tally) -> Tally {
     written_and_read(
         tally,
         b"write frame 009, whose CRC 7C20 ends in five dominant bits",
@@ -58,7 +58,7 @@ fn ends_dominant(tally: Tally) -> Tally {
     )
 }
 
-fn ends_recessive(tally: Tally) -> Tally {
+pub(crate) fn ends_recessive(tally: Tally) -> Tally {
     written_and_read(
         tally,
         b"write frame 017, whose CRC 521F ends in five recessive bits",
@@ -66,8 +66,4 @@ fn ends_recessive(tally: Tally) -> Tally {
         &IMAGE_017,
         b"base data frame 017, code 0, no bytes",
     )
-}
-
-pub(crate) fn frames(tally: Tally) -> Tally {
-    ends_recessive(ends_dominant(tally))
 }
