@@ -8,11 +8,12 @@ use mathlib.Core.List.{List, [], _∷_, _++_}
 use lib.ListN.{length, replicate}
 use lib.Seq.{take-length}
 use borrow.Author.Tests.{lt-ltb, le-ltb}
+use Rattle.counts.specs.Numbers.{offAbove}
+use Rattle.counts.specs.Counts.{isPassive}
 use Rattle.ledger.specs.declared.state.State.the-variants.{Active, Passive, BusOff}
 use Rattle.ledger.specs.declared.event.Event.{Event}
 use Rattle.ledger.specs.declared.event.Event.the-variants.{ErrorFlagSent, ElevenRecessive}
-use Rattle.ledger.specs.Numbers.{offAbove}
-use Rattle.ledger.specs.Rules.{new, change, isPassive, next, stateOf, ledger}
+use Rattle.ledger.specs.Rules.{new, change, next, stateOf, ledger}
 use Rattle.ledger.specs.declared.ledger.Ledger.{Ledger}
 use Rattle.ledger.specs.declared.ledger.Ledgered.{Ledgered}
 use Rattle.ledger.specs.Answer.{inRange, accepted, after}

@@ -8,9 +8,10 @@ use mathlib.Core.Bool.{Bool, true, false, cond}
 use mathlib.Core.List.{List, [], _∷_, _++_, append-assoc}
 use lib.ListN.{length, take}
 use borrow.Author.Tests.{lt-ltb, le-ltb}
+use Rattle.counts.specs.Numbers.{offAbove}
 use Rattle.ledger.specs.declared.event.Event.{Event}
 use Rattle.ledger.specs.declared.event.Event.the-variants.{ElevenRecessive}
-use Rattle.ledger.specs.Numbers.{offAbove, recoveryGroups}
+use Rattle.ledger.specs.Numbers.{recoveryGroups}
 use Rattle.ledger.specs.Rules.{Counts, counts, ledger, new, change, isGroup, grouped, waiting}
 use Rattle.ledger.specs.RulesLaws.{next-on, next-off}
 use Rattle.ledger.specs.History.{run}

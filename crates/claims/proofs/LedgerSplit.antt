@@ -8,9 +8,10 @@ use mathlib.Core.Bool.{Bool, true, false, cond, false≢true}
 use mathlib.Core.List.{List, [], _∷_, _++_, append-nil, append-assoc}
 use lib.ListN.{length, take, length-append}
 use lib.Seq.{take-append-le, take-all, take-nil}
+use Rattle.counts.specs.Numbers.{offAbove}
 use Rattle.ledger.specs.declared.event.Event.{Event}
 use Rattle.ledger.specs.declared.event.Event.the-variants.{ErrorSeen, DominantAfterFlag, FlagErrorAsTransmitter, FlagErrorAsReceiver, ErrorFlagSent, AcknowledgeError, StuffBitOverwritten, SentWell, ReceivedWell, ElevenRecessive}
-use Rattle.ledger.specs.Numbers.{offAbove, recoveryGroups}
+use Rattle.ledger.specs.Numbers.{recoveryGroups}
 use Rattle.ledger.specs.Rules.{isGroup}
 use Rattle.ledger.specs.Cases.{lt-or-le}
 use Rattle.claims.specs.LedgerHistory.{T-of, group, groups, Calm, AsNew, new, recovery, NotPassed, Passed}

@@ -5,9 +5,10 @@ use mathlib.Core.Path.{_≡_}
 use mathlib.Core.Bool.{cond}
 use mathlib.Core.List.{List, [], _∷_, _++_}
 use lib.ListN.{length, take}
+use Rattle.counts.specs.Numbers.{offAbove}
 use Rattle.ledger.specs.declared.event.Event.{Event}
 use Rattle.ledger.specs.declared.event.Event.the-variants.{ElevenRecessive}
-use Rattle.ledger.specs.Numbers.{offAbove, recoveryGroups}
+use Rattle.ledger.specs.Numbers.{recoveryGroups}
 use Rattle.ledger.specs.Rules.{Counts, counts, change, isGroup}
 
 -- T and R worked out from the events alone, from counts that stood before

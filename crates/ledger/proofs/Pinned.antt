@@ -1,16 +1,7 @@
--- Each public contract pins its result down: any two results that it allows for the same arguments are equal, as each contract is an equation.
-use Prim.Native.Nat.{ℕ}
-use mathlib.Core.Path.{_≡_, sym, _∙_}
-use mathlib.Core.List.{List}
-use contract.Lifetimes.{Lfts}
-use denote.Triple.Clauses.{AtExit}
-use borrow.Fn.Kinds.{PK, RK, Out, Dens, resT, endedOf}
+-- Each public contract pins its result down, since each is an equation.
+use borrow.Fn.Kinds.{Out}
+use Rattle.counts.specs.Pinning.{Pinned, one}
 use Rattle.ledger.proofs.ledger.Ledger as call
-
--- `learnt` is the call's own contract, as its callers learn it
-abbrev pub Pinned : (n : ℕ) (ps : List (PK n)) (r : RK n) → Out n ps r → Type 0
-Pinned n ps r learnt =
-    (κs : Lfts n) (a : Dens κs ps) (x y : resT r κs .Denot) (s t : AtExit (endedOf n ps r) κs) → learnt κs a x s → learnt κs a y t → x ≡ y
 
 -- the same for the calls for an event, which all take a ledger and answer alike
 abbrev pub PinnedEvent : Out 0 call.error_seen.Kinds.ps call.error_seen.Kinds.r → Type 0
@@ -31,9 +22,6 @@ pub record AllPinned : Type 0 where
   pub sent-well : PinnedEvent call.sent_well.Reads.Learnt
   pub received-well : PinnedEvent call.received_well.Reads.Learnt
   pub eleven-recessive : PinnedEvent call.eleven_recessive.Reads.Learnt
-
-one : {R : Type 0} {v x y : R} → x ≡ v → y ≡ v → x ≡ y
-one p q = p ∙ sym q
 
 pub pinned : AllPinned
 pinned = search one

@@ -1,10 +1,11 @@
 -- What a call of the ledger answers: 01, "When the handset says no", number 7.
 use mathlib.Core.Bool.{Bool, cond, _&&_, _||_}
 use lib.Dec.{leb, eqb}
+use Rattle.counts.specs.Numbers.{receiveHeld, mostTransmit}
 use Rattle.ledger.specs.declared.ledger.Ledger.{Ledger}
 use Rattle.ledger.specs.declared.ledger.Ledgered.{Ledgered}
 use Rattle.ledger.specs.declared.event.Event.{Event}
-use Rattle.ledger.specs.Numbers.{receiveHeld, mostTransmit, mostGroups}
+use Rattle.ledger.specs.Numbers.{mostGroups}
 use Rattle.ledger.specs.Rules.{isOff, next}
 
 -- the ranges: transmit count 0 to 263, receive count 0 to 255, recovery groups 0 to 127, and 0 unless bus-off

@@ -6,9 +6,10 @@ use mathlib.Core.Logic.{⊎-elim}
 use mathlib.Core.Bool.{Bool, true, false, _&&_, _||_, false≢true}
 use lib.Dec.{leb, eqb}
 use borrow.Author.Tests.{lt-ltb, le-ltb, le-leb, eq-eqb, leb-true, eqb-true}
+use Rattle.counts.specs.Numbers.{offAbove, receiveHeld, mostTransmit}
 use Rattle.ledger.specs.declared.ledger.Ledger.{Ledger}
 use Rattle.ledger.specs.declared.event.Event.{Event}
-use Rattle.ledger.specs.Numbers.{offAbove, receiveHeld, recoveryGroups, mostTransmit, mostGroups}
+use Rattle.ledger.specs.Numbers.{recoveryGroups, mostGroups}
 use Rattle.ledger.specs.Cases.{lt-or-le, cond-either}
 use Rattle.ledger.specs.Rules.{isOff, isGroup, waiting, grouped, next, new}
 use Rattle.ledger.specs.RulesLaws.{next-on, next-off, change-le}

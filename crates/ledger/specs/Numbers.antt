@@ -1,33 +1,10 @@
--- The fault ledger's numbers (01 "The fault ledger", "When the handset says no"), each named once.
+-- The fault ledger's own numbers (01 "The fault ledger", "When the handset says no"), each named once; those of its counts are in crate counts.
 use Prim.Native.Nat.{ℕ}
-
--- an event that does not raise a count by 1 raises it by so many
-abbrev pub raise : ℕ
-raise = 8
-
--- T or R above this: passive, where the station is not bus-off
-abbrev pub passiveAbove : ℕ
-passiveAbove = 127
-
--- T above this: bus-off
-abbrev pub offAbove : ℕ
-offAbove = 255
-
--- R is held at this (house choice)
-abbrev pub receiveHeld : ℕ
-receiveHeld = 255
-
--- R above this becomes this at a good reception (house choice inside the standard's 119 to 127)
-abbrev pub receivedDownTo : ℕ
-receivedDownTo = 127
 
 -- so many recessive groups bring a station back
 abbrev pub recoveryGroups : ℕ
 recoveryGroups = 128
 
--- the ranges: T and the recovery groups at most; R, at most where it is held
-abbrev pub mostTransmit : ℕ
-mostTransmit = 263
-
+-- the range: the recovery groups at most
 abbrev pub mostGroups : ℕ
 mostGroups = 127

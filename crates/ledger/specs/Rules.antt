@@ -1,14 +1,16 @@
 -- The fault ledger's rules: 01, "The fault ledger" (001 section 8.1.4; 002 section 8). What an event makes of a ledger, and the
 -- state that a ledger stands for.
-use Prim.Native.Nat.{ℕ, _+_, _-_, min}
-use mathlib.Core.Bool.{Bool, true, false, cond, _||_}
+use Prim.Native.Nat.{ℕ, _+_, _-_}
+use mathlib.Core.Bool.{Bool, true, false, cond}
 use lib.Dec.{ltb}
+use Rattle.counts.specs.Numbers.{raise}
+use Rattle.counts.specs.Counts.{held, off, isPassive, unacknowledged, received}
 use Rattle.ledger.specs.declared.ledger.Ledger.{Ledger}
 use Rattle.ledger.specs.declared.state.State.{State}
 use Rattle.ledger.specs.declared.state.State.the-variants.{Active, Passive, BusOff}
 use Rattle.ledger.specs.declared.event.Event.{Event}
 use Rattle.ledger.specs.declared.event.Event.the-variants.{ErrorSeen, DominantAfterFlag, FlagErrorAsTransmitter, FlagErrorAsReceiver, ErrorFlagSent, AcknowledgeError, StuffBitOverwritten, SentWell, ReceivedWell, ElevenRecessive}
-use Rattle.ledger.specs.Numbers.{raise, passiveAbove, offAbove, receiveHeld, receivedDownTo, recoveryGroups}
+use Rattle.ledger.specs.Numbers.{recoveryGroups}
 
 -- T, the transmit count, and R, the receive count
 pub record Counts : Type 0 where
@@ -17,22 +19,6 @@ pub record Counts : Type 0 where
 
 abbrev pub counts : ℕ → ℕ → Counts
 counts t r = record { T = t; R = r }
-
--- R is held at 255 (house choice)
-abbrev pub held : ℕ → ℕ
-held r = min r receiveHeld
-
--- T or R above 127: passive, where the station is not bus-off
-abbrev pub isPassive : ℕ → ℕ → Bool
-isPassive t r = ltb passiveAbove t || ltb passiveAbove r
-
--- T after an acknowledge error
-abbrev pub unacknowledged : ℕ → ℕ → ℕ
-unacknowledged t r = cond (isPassive t r) t (t + raise)
-
--- R after a good reception; 127 is a house choice inside the standard's 119 to 127
-abbrev pub received : ℕ → ℕ
-received r = cond (ltb receivedDownTo r) receivedDownTo (r - 1)
 
 -- 01's list: what each event makes of T and R where the station is not bus-off (numbers from 0 up, so 0 - 1 is 0)
 unfoldable pub change : Event → ℕ → ℕ → Counts
@@ -67,7 +53,7 @@ new = ledger 0 0 0
 
 -- bus-off: T above 255
 abbrev pub isOff : Ledger → Bool
-isOff l = ltb offAbove (l .transmit .0)
+isOff l = off (l .transmit .0)
 
 -- eleven recessive bits seen
 abbrev pub isGroup : Event → Bool

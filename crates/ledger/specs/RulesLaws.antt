@@ -4,12 +4,13 @@ use native.Mathlib.Omega.{arith}
 use mathlib.Core.Path.{_≡_}
 use lib.Dec.{ltb}
 use borrow.Author.Tests.{lt-ltb, le-ltb}
+use Rattle.counts.specs.Numbers.{offAbove, receiveHeld, receivedDownTo, mostTransmit}
+use Rattle.counts.specs.Counts.{isPassive}
 use Rattle.ledger.specs.declared.ledger.Ledger.{Ledger}
 use Rattle.ledger.specs.declared.event.Event.{Event}
 use Rattle.ledger.specs.declared.event.Event.the-variants.{ErrorSeen, DominantAfterFlag, FlagErrorAsTransmitter, FlagErrorAsReceiver, ErrorFlagSent, AcknowledgeError, StuffBitOverwritten, SentWell, ReceivedWell, ElevenRecessive}
-use Rattle.ledger.specs.Numbers.{offAbove, receiveHeld, receivedDownTo, mostTransmit}
 use Rattle.ledger.specs.Cases.{cond-either}
-use Rattle.ledger.specs.Rules.{isPassive, change, waiting, counting, next}
+use Rattle.ledger.specs.Rules.{change, waiting, counting, next}
 
 -- bus-off or not
 

@@ -1,9 +1,7 @@
 // A whole history in one call.
 ghost use mathlib.Core.Path.{_≡_};
-ghost use mathlib.Core.Bool.{true};
 ghost use mathlib.Core.List.{[], _∷_};
 ghost use Prim.Native.Nat.{_≤_};
-ghost use Rattle.ledger.specs.Answer.{inRange};
 ghost use Rattle.ledger.specs.History.{run, eventOf, events, afterAll};
 use crate::event::Event;
 use crate::ledger::Ledger;
@@ -31,7 +29,6 @@ fn event_of(n: u8) -> Event
 impl Ledger {
     // One number: its event, or nothing where it is above 9.
     fn numbered(self, n: u8) -> Ledger
-        requires { ⌜ inRange self ≡ true ⌝ }
         ensures { λ r. ⌜ r ≡ run (eventOf n) self ⌝ }
     {
         if 9 < n {
@@ -56,9 +53,8 @@ impl Ledger {
         }
     }
 
-    // A history from a record in its ranges, which it never leaves.
+    // A history, number by number.
     fn run(self, numbers: &[u8]) -> Ledger
-        requires { ⌜ inRange self ≡ true ⌝ }
         ensures { λ r. ⌜ r ≡ run (events (now (numbers .entry))) self ⌝ }
     {
         let mut ledger = self;

@@ -1,11 +1,11 @@
 // A station's ledger: what it holds, what a call hands back, and the state that it stands for.
 ghost use mathlib.Core.Path.{_≡_};
-ghost use Rattle.ledger.specs.Rules.{new, stateOf, isOff};
+ghost use Rattle.ledger.specs.Rules.{new, stateOf};
 ghost use Rattle.ledger.specs.Answer.{inRange};
-use crate::count::ReceiveCount;
-use crate::count::TransmitCount;
-use crate::count::is_passive;
 use crate::state::State;
+use counts::ReceiveCount;
+use counts::TransmitCount;
+use counts::is_passive;
 
 // Both counts, and the groups of eleven recessive bits seen since it went bus-off. Ranges: docs/RANGES.md.
 pub struct Ledger {
@@ -36,31 +36,24 @@ impl Ledger {
     pub fn state(self) -> State
         ensures { λ r. ⌜ r ≡ stateOf self ⌝ }
     {
-        if self.is_off() {
-            return State::BusOff;
-        }
         let t = self.transmit;
         let r = self.receive;
+        if t.is_off() {
+            return State::BusOff;
+        }
         if is_passive(t, r) {
             return State::Passive;
         }
         State::Active
     }
 
-    // T above 255.
-    pub(crate) fn is_off(self) -> bool
-        ensures { λ r. ⌜ r ≡ isOff self ⌝ }
-    {
-        255 < self.transmit.0
-    }
-
     // Whether each number of the record lies in its range.
     pub(crate) fn in_range(self) -> bool
         ensures { λ r. ⌜ r ≡ inRange self ⌝ }
     {
-        let t = self.transmit.0;
-        let r = self.receive.0;
+        let t = self.transmit;
+        let r = self.receive;
         let g = self.groups;
-        (t <= 263) & (r <= 255) & (g <= 127) & ((255 < t) | (g == 0))
+        t.fits() & r.fits() & (g <= 127) & (t.is_off() | (g == 0))
     }
 }

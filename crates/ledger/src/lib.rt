@@ -1,14 +1,13 @@
 // The fault ledger: a station's two error counts, kept by document 01's rules for any history of events.
 mod calls;
-mod count;
 mod event;
 mod history;
 mod ledger;
 mod rules;
 mod state;
 
-pub use count::ReceiveCount;
-pub use count::TransmitCount;
+pub use counts::ReceiveCount;
+pub use counts::TransmitCount;
 pub use event::Event;
 pub use ledger::Ledger;
 pub use ledger::Ledgered;

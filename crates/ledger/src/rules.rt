@@ -1,10 +1,7 @@
-// The rules: the next ledger at each event, for a record in its ranges.
+// The rules: the next ledger at each event, for any record.
 ghost use mathlib.Core.Path.{_≡_};
-ghost use mathlib.Core.Bool.{true};
-ghost use Prim.Native.Nat.{_≤_};
-ghost use Rattle.ledger.specs.Numbers.{offAbove, receiveHeld};
-ghost use Rattle.ledger.specs.Rules.{grouped, waiting, counting, next};
-ghost use Rattle.ledger.specs.Answer.{inRange};
+ghost use mathlib.Core.Bool.{false};
+ghost use Rattle.ledger.specs.Rules.{isOff, grouped, waiting, counting, next};
 use crate::event::Event;
 use crate::ledger::Ledger;
 
@@ -33,8 +30,7 @@ impl Ledger {
 
     // Any event when not bus-off.
     fn counting(mut self, e: Event) -> Ledger
-        requires { ⌜ self .transmit .0 ≤ offAbove ⌝ }
-        requires { ⌜ self .receive .0 ≤ receiveHeld ⌝ }
+        requires { ⌜ isOff self ≡ false ⌝ }
         ensures { λ r. ⌜ r ≡ counting e self ⌝ }
     {
         let t = self.transmit;
@@ -77,12 +73,12 @@ impl Ledger {
         }
     }
 
-    // The rules, for a record in range.
+    // The rules.
     pub(crate) fn next(self, e: Event) -> Ledger
-        requires { ⌜ inRange self ≡ true ⌝ }
         ensures { λ r. ⌜ r ≡ next e self ⌝ }
     {
-        if self.is_off() {
+        let t = self.transmit;
+        if t.is_off() {
             return self.waiting(e);
         }
         self.counting(e)

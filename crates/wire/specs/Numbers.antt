@@ -1,5 +1,5 @@
--- The numbers of document 01, each named once. The fault ledger and the claims name their own. 0 and 1 as bits, a refusal's number and the
--- figures of a sample stay as document 01 writes them.
+-- The numbers of document 01, each named once. The error counts, the fault ledger and the claims name their own. 0 and 1 as bits, a
+-- refusal's number and the figures of a sample stay as document 01 writes them.
 use Prim.Native.Nat.{ℕ}
 
 -- HOW BITS AND FRAMES ARE HELD

@@ -1,7 +1,7 @@
 -- What each event makes of the counts: arm by arm, from what the count's own function ensures.
 use borrow.Author.Needs.{needs}
 use Rattle.ledger.specs.Rules.{change}
-use Rattle.ledger.proofs.Counted.{transmit-is, receive-is}
+use Rattle.ledger.proofs.Counted.{transmit-is, transmit-raised, receive-is}
 use Rattle.ledger.proofs.ledger.Ledger.counting.Statement.{statement}
 use Rattle.ledger.proofs.ledger.Ledger.counting.Tie as tie
 
@@ -15,7 +15,7 @@ returns-2 c = rw (c .before .enum-told2 .given .1) (receive-is _ _ _ _ (c .raise
 
 returns-3 : tie.Need-returns-3
 unfolding change
-returns-3 c = rw (c .before .enum-told3 .given .1) (transmit-is _ _ _ _ (c .raised3 .ensures))
+returns-3 c = rw (c .before .enum-told3 .given .1) (search transmit-raised)
 
 returns-4 : tie.Need-returns-4
 unfolding change
@@ -23,7 +23,7 @@ returns-4 c = rw (c .before .enum-told4 .given .1) (receive-is _ _ _ _ (c .raise
 
 returns-5 : tie.Need-returns-5
 unfolding change
-returns-5 c = rw (c .before .enum-told5 .given .1) (transmit-is _ _ _ _ (c .raised5 .ensures))
+returns-5 c = rw (c .before .enum-told5 .given .1) (search transmit-raised)
 
 returns-6 : tie.Need-returns-6
 unfolding change

@@ -1,11 +1,7 @@
--- The rules on either side of bus-off, by the test that was called; the ranges give what the counts' functions ask.
-use mathlib.Core.Path.{sym, _∙_}
-use borrow.Author.Tests.{ltb-false}
+-- The rules on either side of bus-off, by the test that was called.
 use borrow.Author.Needs.{needs}
-use Rattle.ledger.specs.Numbers.{offAbove}
-use Rattle.ledger.specs.AnswerLaws.{ranged}
+use Rattle.counts.proofs.Tests.{tests}
 use Rattle.ledger.specs.Rules.{next}
-use Rattle.ledger.proofs.Tests.{tests}
 use Rattle.ledger.proofs.ledger.Ledger.next.Statement.{statement}
 use Rattle.ledger.proofs.ledger.Ledger.next.Tie as tie
 
@@ -14,8 +10,7 @@ unfolding next
 returns c = search tests
 
 counting-requires : tie.Need-counting-requires
-counting-requires c κs =
-    (ltb-false offAbove _ (sym (c .before .is-off .ensures) ∙ c .if1 .left), ranged _ (c .before .before .pre) .receive-le)
+counting-requires c κs = search tests
 
 returns-2 : tie.Need-returns-2
 unfolding next

@@ -10,12 +10,9 @@ returns : tie.Need-returns
 unfolding run
 returns c = rw (eventOf-above (c .before .args .n) (omega arith))
 
-next-requires : tie.Need-next-requires
-next-requires c κs = search needs
-
 returns-2 : tie.Need-returns-2
 unfolding run
 returns-2 c = rw (c .before .event-of .ensures) (c .next .ensures)
 
 pub numbered-spec : {M : Type 1} → statement M
-numbered-spec = tie.close (tie.spec returns (search needs) next-requires returns-2)
+numbered-spec = tie.close (tie.spec returns (search needs) (search needs) returns-2)

@@ -1,12 +1,9 @@
 -- A history from any record: refused exactly out of range.
 use borrow.Author.Needs.{needs}
+use Rattle.counts.proofs.Tests.{tests}
 use Rattle.ledger.specs.History.{afterAll}
-use Rattle.ledger.proofs.Tests.{tests}
 use Rattle.ledger.proofs.ledger.Ledger.replay.Statement.{statement}
 use Rattle.ledger.proofs.ledger.Ledger.replay.Tie as tie
-
-run-requires : tie.Need-run-requires
-run-requires c κs = search tests
 
 returns : tie.Need-returns
 unfolding afterAll
@@ -17,4 +14,4 @@ unfolding afterAll
 returns-2 c = search tests
 
 pub replay-spec : {M : Type 1} → statement M
-replay-spec = tie.close (tie.spec (search needs) run-requires returns returns-2)
+replay-spec = tie.close (tie.spec (search needs) (search needs) returns returns-2)

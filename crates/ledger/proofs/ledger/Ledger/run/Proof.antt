@@ -1,27 +1,23 @@
--- A history from a record in range: what is left to run, from the ledger so far, gives the whole history's ledger.
+-- A history: what is left to run, from the ledger so far, gives the whole history's ledger.
 use Prim.Native.Nat.{_≤_, _<_, _-_}
 use native.Mathlib.Omega.{arith}
 use mathlib.Core.Path.{_≡_, refl, sym, _∙_}
-use mathlib.Core.Bool.{true}
-use lib.ListN.{length, drop, getD}
+use lib.ListN.{length, drop}
 use borrow.Author.Needs.{needs}
-use Rattle.ledger.specs.Answer.{inRange}
-use Rattle.ledger.specs.History.{run, eventOf, events}
-use Rattle.ledger.specs.HistoryLaws.{run-in-range, run-at, run-end}
+use Rattle.ledger.specs.History.{run, events}
+use Rattle.ledger.specs.HistoryLaws.{run-at, run-end}
 use Rattle.ledger.proofs.ledger.Ledger.run.Statement.{statement}
 use Rattle.ledger.proofs.ledger.Ledger.run.Tie as tie
 
 abbrev Inv-loop : tie.InvT-loop
 Inv-loop numbers ledger₀ i₀ ledger i =
-    (run (events (drop i numbers)) ledger ≡ run (events numbers) ledger₀) ×
-    (inRange ledger ≡ true) ×
-    (i ≤ length numbers)
+    (run (events (drop i numbers)) ledger ≡ run (events numbers) ledger₀) × (i ≤ length numbers)
 
 abbrev μ-loop : tie.MeasureT-loop
 μ-loop numbers ledger₀ i₀ ledger i = length numbers - i
 
 loop-holds : tie.Need-loop-holds Inv-loop μ-loop
-loop-holds c = (refl, c .before .pre, search needs)
+loop-holds c = (refl, search needs)
 
 shared-slice-read-numbered : tie.Need-shared-slice-read-numbered Inv-loop μ-loop
 shared-slice-read-numbered c = search needs
@@ -41,7 +37,6 @@ loop-again c =
     let ns = l .before .before .args .numbers .now in
     let h : l .loop .i < length ns = omega arith in (
       rw (c .numbered .ensures, ← run-at ns (l .loop .i) (l .loop .ledger) h) (l .loop .inv .0),
-      rw (c .numbered .ensures) (run-in-range (eventOf (getD ns (l .loop .i) 0)) (l .loop .ledger) (l .loop .inv .1)),
       search needs,
     )
 

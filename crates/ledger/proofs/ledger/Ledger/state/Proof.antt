@@ -1,6 +1,6 @@
 -- The state, by the two tests that were called.
 use borrow.Author.Needs.{needs}
-use Rattle.ledger.proofs.Tests.{tests}
+use Rattle.counts.proofs.Tests.{tests}
 use Rattle.ledger.proofs.ledger.Ledger.state.Statement.{statement}
 use Rattle.ledger.proofs.ledger.Ledger.state.Tie as tie
 

@@ -1,12 +1,9 @@
 -- One call: refused exactly out of range, and else by the rules.
 use borrow.Author.Needs.{needs}
+use Rattle.counts.proofs.Tests.{tests}
 use Rattle.ledger.specs.Answer.{after}
-use Rattle.ledger.proofs.Tests.{tests}
 use Rattle.ledger.proofs.ledger.Ledger.step.Statement.{statement}
 use Rattle.ledger.proofs.ledger.Ledger.step.Tie as tie
-
-next-requires : tie.Need-next-requires
-next-requires c κs = search tests
 
 returns : tie.Need-returns
 unfolding after
@@ -17,4 +14,4 @@ unfolding after
 returns-2 c = search tests
 
 pub step-spec : {M : Type 1} → statement M
-step-spec = tie.close (tie.spec (search needs) next-requires returns returns-2)
+step-spec = tie.close (tie.spec (search needs) (search needs) returns returns-2)

@@ -1,7 +1,7 @@
 -- Bus-off, only a recessive group counts: by the test that was called.
 use borrow.Author.Needs.{needs}
+use Rattle.counts.proofs.Tests.{tests}
 use Rattle.ledger.specs.Rules.{waiting}
-use Rattle.ledger.proofs.Tests.{tests}
 use Rattle.ledger.proofs.ledger.Ledger.waiting.Statement.{statement}
 use Rattle.ledger.proofs.ledger.Ledger.waiting.Tie as tie
 

@@ -5,12 +5,12 @@ use mathlib.Core.Bool.{Bool, true, false, cond, false≢true}
 use borrow.Author.Needs.{needs}
 use borrow.Author.Tests.{eq-eqb, ne-eqb, lt-ltb, le-ltb, le-leb, lt-leb}
 
-pub holds : (b t : Bool) → t ≡ b → t ≡ true → b ≡ true
-holds b t is h = sym is ∙ h
+pub holds : (b t v : Bool) → t ≡ b → t ≡ v → b ≡ v
+holds b t v is h = sym is ∙ h
 
 pub taken : {A : Type 0} (b t : Bool) (x y z : A) → t ≡ b → t ≡ true → z ≡ x → z ≡ cond b x y
 taken true t x y z is h r = r
-taken false t x y z is h r = absurd (false≢true (holds false t is h))
+taken false t x y z is h r = absurd (false≢true (holds false t true is h))
 
 pub left : {A : Type 0} (b t : Bool) (x y z : A) → t ≡ b → t ≡ false → z ≡ y → z ≡ cond b x y
 left true t x y z is h r = absurd (false≢true (sym h ∙ is))

@@ -1,7 +1,7 @@
 -- Bus-off is T above 255.
 use borrow.Author.Needs.{needs}
-use Rattle.ledger.proofs.ledger.Ledger.is_off.Statement.{statement}
-use Rattle.ledger.proofs.ledger.Ledger.is_off.Tie as tie
+use Rattle.counts.proofs.count.TransmitCount.is_off.Statement.{statement}
+use Rattle.counts.proofs.count.TransmitCount.is_off.Tie as tie
 
 returns : tie.Need-returns
 returns c = search needs

@@ -1,8 +1,8 @@
 -- A good reception lowers R as 01 says: by the tests that the code makes.
 use borrow.Author.Needs.{needs}
-use Rattle.ledger.proofs.Tests.{tests}
-use Rattle.ledger.proofs.count.ReceiveCount.lowered.Statement.{statement}
-use Rattle.ledger.proofs.count.ReceiveCount.lowered.Tie as tie
+use Rattle.counts.proofs.Tests.{tests}
+use Rattle.counts.proofs.count.ReceiveCount.lowered.Statement.{statement}
+use Rattle.counts.proofs.count.ReceiveCount.lowered.Tie as tie
 
 returns : tie.Need-returns
 returns c = search tests

@@ -1,7 +1,7 @@
 -- Passive is T or R above 127.
 use borrow.Author.Needs.{needs}
-use Rattle.ledger.proofs.count.is_passive.Statement.{statement}
-use Rattle.ledger.proofs.count.is_passive.Tie as tie
+use Rattle.counts.proofs.count.is_passive.Statement.{statement}
+use Rattle.counts.proofs.count.is_passive.Tie as tie
 
 returns : tie.Need-returns
 returns c = search needs

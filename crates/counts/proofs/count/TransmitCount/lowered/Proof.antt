@@ -1,7 +1,7 @@
 -- T is lowered by 1, and 0 stays.
 use borrow.Author.Needs.{needs}
-use Rattle.ledger.proofs.count.TransmitCount.lowered.Statement.{statement}
-use Rattle.ledger.proofs.count.TransmitCount.lowered.Tie as tie
+use Rattle.counts.proofs.count.TransmitCount.lowered.Statement.{statement}
+use Rattle.counts.proofs.count.TransmitCount.lowered.Tie as tie
 
 returns : tie.Need-returns
 returns c = search needs
