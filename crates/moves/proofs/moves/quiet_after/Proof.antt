@@ -4,9 +4,6 @@ use Rattle.wire.proofs.Tests.{tests}
 use Rattle.moves.proofs.moves.quiet_after.Statement.{statement}
 use Rattle.moves.proofs.moves.quiet_after.Tie as tie
 
-add-result : tie.Need-add-result
-add-result c = search needs
-
 returns : tie.Need-returns
 returns c = search tests
 
@@ -17,4 +14,4 @@ returns-3 : tie.Need-returns-3
 returns-3 c = search tests
 
 pub quiet-after-spec : {M : Type 1} → statement M
-quiet-after-spec = tie.close (tie.spec add-result returns returns-2 returns-3)
+quiet-after-spec = tie.close (tie.spec (search needs) returns returns-2 returns-3)

@@ -4,9 +4,6 @@ use Rattle.wire.proofs.Tests.{tests}
 use Rattle.moves.proofs.moves.when_end_of_frame.Statement.{statement}
 use Rattle.moves.proofs.moves.when_end_of_frame.Tie as tie
 
-add-t11 : tie.Need-add-t11
-add-t11 c = search needs
-
 returns : tie.Need-returns
 returns c = search tests
 
@@ -24,4 +21,4 @@ returns-5 c = search tests
 
 pub when-end-of-frame-spec : {M : Type 1} → statement M
 when-end-of-frame-spec =
-    tie.close (tie.spec add-t11 returns returns-2 returns-3 returns-4 returns-5)
+    tie.close (tie.spec (search needs) returns returns-2 returns-3 returns-4 returns-5)

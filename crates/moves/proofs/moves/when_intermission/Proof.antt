@@ -4,9 +4,6 @@ use Rattle.wire.proofs.Tests.{tests}
 use Rattle.moves.proofs.moves.when_intermission.Statement.{statement}
 use Rattle.moves.proofs.moves.when_intermission.Tie as tie
 
-add-t10 : tie.Need-add-t10
-add-t10 c = search needs
-
 returns : tie.Need-returns
 returns c = search tests
 
@@ -20,4 +17,4 @@ returns-4 : tie.Need-returns-4
 returns-4 c = search tests
 
 pub when-intermission-spec : {M : Type 1} → statement M
-when-intermission-spec = tie.close (tie.spec add-t10 returns returns-2 returns-3 returns-4)
+when-intermission-spec = tie.close (tie.spec (search needs) returns returns-2 returns-3 returns-4)

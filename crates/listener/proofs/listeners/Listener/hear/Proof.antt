@@ -1,5 +1,6 @@
 -- The tests pick the definition's case: the record first, then the sample.
 use mathlib.Core.Path.{sym, _∙_}
+use native.Mathlib.Omega.{arith}
 use borrow.Author.Tests.{lt-ltb, le-ltb}
 use borrow.Author.Needs.{needs}
 use Rattle.listener.proofs.listeners.Listener.hear.Statement.{statement}
@@ -18,10 +19,20 @@ refused-requires-2 : tie.Need-refused-requires-2
 refused-requires-2 c κs = search needs
 
 returns : tie.Need-returns
-returns c = rw (sym (c .before .before .before .fits2 .ensures) ∙ c .before .before .if1 .taken, lt-ltb _ _ (c .before .if2 .taken)) (c .accepted .ensures)
+returns c =
+    let sample = c .before .before .before .before .args .sample in
+    rw (
+      sym (c .before .before .before .fits2 .ensures) ∙ c .before .before .if1 .taken,
+      lt-ltb sample 2 (omega (arith, c .before .if2 .taken)),
+    ) (c .accepted .ensures)
 
 returns-2 : tie.Need-returns-2
-returns-2 c = rw (sym (c .before .before .before .fits2 .ensures) ∙ c .before .before .if1 .taken, le-ltb _ _ (c .before .if2 .left)) (c .refused .ensures)
+returns-2 c =
+    let sample = c .before .before .before .before .args .sample in
+    rw (
+      sym (c .before .before .before .fits2 .ensures) ∙ c .before .before .if1 .taken,
+      le-ltb sample 2 (omega (arith, c .before .if2 .left)),
+    ) (c .refused .ensures)
 
 returns-3 : tie.Need-returns-3
 returns-3 c = rw (sym (c .before .before .fits2 .ensures) ∙ c .before .if1 .left) (c .refused2 .ensures)
