@@ -2,7 +2,7 @@
 use mathlib.Core.Path.{_≡_, sym, _∙_}
 use mathlib.Core.Logic.{⊎-elim}
 use mathlib.Core.List.{List}
-use Rattle.counts.specs.Pinning.{Pinned}
+use Rattle.proving.specs.Pinning.{Pinned}
 use Rattle.ledger.specs.declared.event.Event.{Event}
 use Rattle.claims.specs.declared.ledger_history.Standing.{Standing}
 use Rattle.claims.specs.Promises.{LedgerPromise}

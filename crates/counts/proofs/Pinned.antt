@@ -3,7 +3,7 @@ use Prim.Native.Nat.{ℕ}
 use mathlib.Core.Path.{_≡_, ap}
 use Rattle.counts.specs.declared.count.TransmitCount.{TransmitCount}
 use Rattle.counts.specs.declared.count.ReceiveCount.{ReceiveCount}
-use Rattle.counts.specs.Pinning.{Pinned, one}
+use Rattle.proving.specs.Pinning.{Pinned, one}
 use Rattle.counts.proofs.count as call
 use Rattle.counts.proofs.count.TransmitCount as transmit
 use Rattle.counts.proofs.count.ReceiveCount as receive

@@ -1,6 +1,6 @@
 -- Each public contract pins its result down, since each is an equation.
 use borrow.Fn.Kinds.{Out}
-use Rattle.counts.specs.Pinning.{Pinned, one}
+use Rattle.proving.specs.Pinning.{Pinned, one}
 use Rattle.ledger.proofs.ledger.Ledger as call
 
 -- the same for the calls for an event, which all take a ledger and answer alike

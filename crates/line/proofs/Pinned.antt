@@ -1,5 +1,5 @@
 -- Each public contract of the core pins its result down.
-use Rattle.wire.specs.Pinning.{Pinned, one}
+use Rattle.proving.specs.Pinning.{Pinned, one}
 use Rattle.line.proofs.cores.Core as core
 
 pub record AllPinned : Type 0 where

@@ -1,5 +1,5 @@
 -- Each public contract of the listener pins its result down: the answer, the frame, the position and the next record.
-use Rattle.wire.specs.Pinning.{Pinned, one}
+use Rattle.proving.specs.Pinning.{Pinned, one}
 use Rattle.listener.proofs.answers.Heard as heard
 use Rattle.listener.proofs.listeners.Listener as listener
 

@@ -1,5 +1,5 @@
 -- Each public contract of the reader pins its result down.
-use Rattle.wire.specs.Pinning.{Pinned, one}
+use Rattle.proving.specs.Pinning.{Pinned, one}
 use Rattle.reader.proofs.fields.Field as field
 use Rattle.reader.proofs.registers.Registers as registers
 use Rattle.reader.proofs.readers.Reader as reader

@@ -1,5 +1,5 @@
 -- Each public contract pins its result down, since each is an equation.
-use Rattle.wire.specs.Pinning.{Pinned, one}
+use Rattle.proving.specs.Pinning.{Pinned, one}
 use Rattle.refusals.proofs.frame as frame
 use Rattle.refusals.proofs.place as place
 

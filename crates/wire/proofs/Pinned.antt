@@ -1,5 +1,5 @@
 -- Each public contract pins its result down, since each is an equation.
-use Rattle.wire.specs.Pinning.{Pinned, one}
+use Rattle.proving.specs.Pinning.{Pinned, one}
 use Rattle.wire.proofs.bits as bits
 use Rattle.wire.proofs.crc as crc
 use Rattle.wire.proofs.frames as frames

@@ -16,4 +16,3 @@ pub mod FramesLaws
 pub mod ImageLaws
 pub mod Samples
 pub mod SamplesLaws
-pub mod Pinning

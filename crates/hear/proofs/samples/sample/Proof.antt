@@ -1,5 +1,5 @@
 -- The tests pick the definition's case.
-use Rattle.wire.proofs.Tests.{tests}
+use Rattle.proving.specs.Tests.{tests}
 use Rattle.hear.proofs.samples.sample.Statement.{statement}
 use Rattle.hear.proofs.samples.sample.Tie as tie
 

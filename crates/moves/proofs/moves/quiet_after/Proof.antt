@@ -1,6 +1,6 @@
 -- The tests pick the definition's case.
 use borrow.Author.Needs.{needs}
-use Rattle.wire.proofs.Tests.{tests}
+use Rattle.proving.specs.Tests.{tests}
 use Rattle.moves.proofs.moves.quiet_after.Statement.{statement}
 use Rattle.moves.proofs.moves.quiet_after.Tie as tie
 

@@ -1,5 +1,5 @@
 -- The tests pick the definition's case: the sample first, then the CRC.
-use Rattle.wire.proofs.Tests.{tests}
+use Rattle.proving.specs.Tests.{tests}
 use Rattle.moves.proofs.moves.when_ack_delimiter.Statement.{statement}
 use Rattle.moves.proofs.moves.when_ack_delimiter.Tie as tie
 

@@ -1,6 +1,6 @@
 -- The tests pick the definition's case: the sample, then the bit's number.
 use borrow.Author.Needs.{needs}
-use Rattle.wire.proofs.Tests.{tests}
+use Rattle.proving.specs.Tests.{tests}
 use Rattle.moves.proofs.moves.when_end_of_frame.Statement.{statement}
 use Rattle.moves.proofs.moves.when_end_of_frame.Tie as tie
 

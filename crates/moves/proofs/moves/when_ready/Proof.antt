@@ -1,5 +1,5 @@
 -- The test of the sample picks the definition's case.
-use Rattle.wire.proofs.Tests.{tests}
+use Rattle.proving.specs.Tests.{tests}
 use Rattle.moves.proofs.moves.when_ready.Statement.{statement}
 use Rattle.moves.proofs.moves.when_ready.Tie as tie
 

@@ -1,6 +1,6 @@
 -- The test of the place picks the definition's case.
 use borrow.Author.Needs.{needs}
-use Rattle.wire.proofs.Tests.{tests}
+use Rattle.proving.specs.Tests.{tests}
 use Rattle.reader.proofs.registers.after_data.Statement.{statement}
 use Rattle.reader.proofs.registers.after_data.Tie as tie
 

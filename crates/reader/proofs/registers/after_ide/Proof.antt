@@ -1,5 +1,5 @@
 -- The test of IDE picks the definition's case.
-use Rattle.wire.proofs.Tests.{tests}
+use Rattle.proving.specs.Tests.{tests}
 use Rattle.reader.proofs.registers.after_ide.Statement.{statement}
 use Rattle.reader.proofs.registers.after_ide.Tie as tie
 

@@ -1,5 +1,5 @@
 -- The test of the place picks the definition's case.
-use Rattle.wire.proofs.Tests.{tests}
+use Rattle.proving.specs.Tests.{tests}
 use Rattle.reader.proofs.registers.data_or_crc.Statement.{statement}
 use Rattle.reader.proofs.registers.data_or_crc.Tie as tie
 

@@ -1,7 +1,7 @@
 -- The test of the bit picks the definition's case.
 use borrow.Author.Needs.{needs}
 -- The test of the bit picks the definition's case.
-use Rattle.wire.proofs.Tests.{tests}
+use Rattle.proving.specs.Tests.{tests}
 use Rattle.reader.proofs.registers.note.Statement.{statement}
 use Rattle.reader.proofs.registers.note.Tie as tie
 

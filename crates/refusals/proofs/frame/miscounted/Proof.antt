@@ -1,5 +1,5 @@
 -- By the remote mark.
-use Rattle.wire.proofs.Tests.{tests}
+use Rattle.proving.specs.Tests.{tests}
 use Rattle.refusals.proofs.frame.miscounted.Statement.{statement}
 use Rattle.refusals.proofs.frame.miscounted.Tie as tie
 

@@ -1,5 +1,5 @@
 -- The tests pick the definition's row: the start position first, then the room.
-use Rattle.wire.proofs.Tests.{tests}
+use Rattle.proving.specs.Tests.{tests}
 use Rattle.refusals.proofs.place.place_refusal.Statement.{statement}
 use Rattle.refusals.proofs.place.place_refusal.Tie as tie
 

@@ -8,7 +8,7 @@ use borrow.Author.Tests.{ne-eqb}
 use Rattle.wire.specs.BitsLaws.{xors-is}
 use Rattle.wire.specs.Crc.{crcStep}
 use Rattle.wire.specs.Numbers.{crcWidth, crcGenerator}
-use Rattle.wire.proofs.Tests.{tests}
+use Rattle.proving.specs.Tests.{tests}
 use Rattle.wire.proofs.crc.crc_bit.Statement.{statement}
 use Rattle.wire.proofs.crc.crc_bit.Tie as tie
 

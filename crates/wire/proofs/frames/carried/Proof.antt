@@ -1,6 +1,6 @@
 -- By the remote mark, then by the code.
 use borrow.Author.Needs.{needs}
-use Rattle.wire.proofs.Tests.{tests}
+use Rattle.proving.specs.Tests.{tests}
 use Rattle.wire.proofs.frames.carried.Statement.{statement}
 use Rattle.wire.proofs.frames.carried.Tie as tie
 

@@ -1,6 +1,6 @@
 -- A good reception lowers R as 01 says: by the tests that the code makes.
 use borrow.Author.Needs.{needs}
-use Rattle.counts.proofs.Tests.{tests}
+use Rattle.proving.specs.Tests.{tests}
 use Rattle.counts.proofs.count.ReceiveCount.lowered.Statement.{statement}
 use Rattle.counts.proofs.count.ReceiveCount.lowered.Tie as tie
 

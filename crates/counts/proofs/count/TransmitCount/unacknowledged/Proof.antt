@@ -2,12 +2,12 @@
 use mathlib.Core.Path.{sym, _∙_}
 use borrow.Author.Needs.{needs}
 use Rattle.counts.specs.CountsLaws.{raised-active}
-use Rattle.counts.proofs.Tests.{tests}
+use Rattle.proving.specs.Tests.{called}
 use Rattle.counts.proofs.count.TransmitCount.unacknowledged.Statement.{statement}
 use Rattle.counts.proofs.count.TransmitCount.unacknowledged.Tie as tie
 
 returns : tie.Need-returns
-returns c = search tests
+returns c = search called
 
 returns-2 : tie.Need-returns-2
 returns-2 c =

@@ -1,6 +1,6 @@
 -- The test of IDE picks the definition's case; 29 bits fit.
 use borrow.Author.Needs.{needs}
-use Rattle.wire.proofs.Tests.{tests}
+use Rattle.proving.specs.Tests.{tests}
 use Rattle.reader.proofs.registers.Registers.ident.Statement.{statement}
 use Rattle.reader.proofs.registers.Registers.ident.Tie as tie
 

@@ -1,7 +1,7 @@
 -- The test of IDE picks the definition's case; the weights add up to 7.
 use borrow.Author.Tests.{ne-eqb}
 use borrow.Author.Needs.{needs}
-use Rattle.wire.proofs.Tests.{tests}
+use Rattle.proving.specs.Tests.{tests}
 use Rattle.reader.proofs.registers.Registers.noted.Statement.{statement}
 use Rattle.reader.proofs.registers.Registers.noted.Tie as tie
 

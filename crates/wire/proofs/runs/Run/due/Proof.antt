@@ -1,5 +1,5 @@
 -- Each branch is a test of the definition.
-use Rattle.wire.proofs.Tests.{tests}
+use Rattle.proving.specs.Tests.{tests}
 use borrow.Author.Needs.{needs}
 use Rattle.wire.proofs.runs.Run.due.Statement.{statement}
 use Rattle.wire.proofs.runs.Run.due.Tie as tie

@@ -1,5 +1,5 @@
 -- Each branch is a test of the definition.
-use Rattle.wire.proofs.Tests.{tests}
+use Rattle.proving.specs.Tests.{tests}
 use Rattle.wire.proofs.runs.Run.hear.Statement.{statement}
 use Rattle.wire.proofs.runs.Run.hear.Tie as tie
 

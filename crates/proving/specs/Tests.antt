@@ -1,9 +1,11 @@
--- A test that the code made decides the `cond` of a definition: `tests`, for `search`. Tests on numbers are the kit's; `taken` and `left`
--- are for a test t that was called, whose contract says that it is the definition's b.
+-- A test that the code made decides the `cond` of a definition, for `search`: `tests` where it is a test on numbers, `called` also where it
+-- was a call t, whose contract says that it is the definition's b.
 use mathlib.Core.Path.{_≡_, sym, _∙_}
 use mathlib.Core.Bool.{Bool, true, false, cond, false≢true}
 use borrow.Author.Needs.{needs}
 use borrow.Author.Tests.{eq-eqb, ne-eqb, lt-ltb, le-ltb, le-leb, lt-leb}
+
+pub ruleset tests = (needs, eq-eqb, ne-eqb, lt-ltb, le-ltb, le-leb, lt-leb)
 
 pub holds : (b t v : Bool) → t ≡ b → t ≡ v → b ≡ v
 holds b t v is h = sym is ∙ h
@@ -16,4 +18,4 @@ pub left : {A : Type 0} (b t : Bool) (x y z : A) → t ≡ b → t ≡ false →
 left true t x y z is h r = absurd (false≢true (sym h ∙ is))
 left false t x y z is h r = r
 
-pub ruleset tests = (needs, eq-eqb, ne-eqb, lt-ltb, le-ltb, le-leb, lt-leb, holds, taken, left)
+pub ruleset called = (tests, holds, taken, left)
