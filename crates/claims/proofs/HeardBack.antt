@@ -6,7 +6,7 @@ use mathlib.Core.Bool.{true}
 use mathlib.Core.List.{List, [], _∷_, _++_, append-assoc}
 use lib.ListN.{length, take, drop, replicate}
 use lib.Seq.{drop-at, length-take-le}
-use borrow.Author.Tests.{eq-eqb, ne-eqb, ltb-false}
+use borrow.Author.Tests.{eq-eqb, ne-eqb}
 use Rattle.wire.specs.declared.frames.Frame.{Frame}
 use Rattle.wire.specs.declared.frames.Received.{Received}
 use Rattle.wire.specs.Numbers.{idle}
@@ -18,10 +18,9 @@ use Rattle.listener.specs.declared.answers.Heard.{Heard}
 use Rattle.listener.specs.declared.answers.Found.{Found}
 use Rattle.listener.specs.Listener.{newListener, refused, fits, foundAt, seek, found}
 use Rattle.writer.specs.declared.written.Written.{Written}
-use Rattle.refusals.specs.Refusals.{frameRows, frameRefusal, refusal}
-use Rattle.refusals.specs.RefusalsLaws.{None, none-exactly}
-use Rattle.writer.specs.Writer.{wireBits, Outcome, outcome, answer, placed}
-use Rattle.writer.specs.WriterLaws.{rows, refusal-given}
+use Rattle.refusals.specs.Refusals.{frameRefusal}
+use Rattle.writer.specs.Writer.{wireBits, outcome, answer}
+use Rattle.writer.specs.WriterLaws.{frame-taken, inside, capture-placed}
 use Rattle.claims.specs.Answers.{nothing, handed}
 use Rattle.claims.specs.Lines.{recessive, reply}
 use Rattle.claims.specs.Histories.{Listening, afterCalls, answersTo}
@@ -62,32 +61,19 @@ ready-hears r l = image-heard (recessive idle) r l (subst Listening (sym place-r
 -- A FRAME THAT WAS WRITTEN
 
 module _ (f : Frame) (c c′ : List ℕ) (start : ℕ) (w : Written) (says : outcome w c′ ≡ answer f c start) where
-  abbrev no : ℕ
-  no = refusal f (length (wireBits f)) (length c) start
-
   back-by : readBack f c start ≡ heardBack f start (outcome w c′)
   unfolding readBack
   back-by = ap (heardBack f start) (sym says)
 
   module _ (z : w .refusal ≡ 0) where
-    none : None (rows f c start)
-    unfolding refusal
-    none = none-exactly (rows f c start) refl .0 (sym (refusal-given f c c′ start w says) ∙ z)
-
-    frame-taken : frameRefusal f ≡ 0
-    unfolding frameRefusal
-    frame-taken = none-exactly (frameRows f) refl .1 (none .0, (none .1 .0, (none .1 .1 .0, tt)))
-
-    placed-here : answer f c start ≡ placed (wireBits f) c start
-    unfolding answer
-    placed-here = rw (eq-eqb no 0 (sym (refusal-given f c c′ start w says) ∙ z))
+    taken : frameRefusal f ≡ 0
+    taken = frame-taken f c c′ start w says z
 
     -- from the start position on: the image, and what stood behind it
     from-start : drop start c′ ≡ wireBits f ++ drop (start + length (wireBits f)) c
     from-start =
-        ap (λ (o : Outcome). drop start (o .capture)) (says ∙ placed-here)
-        ∙ ap (drop start) (append-assoc (take start c) (wireBits f) (drop (start + length (wireBits f)) c))
-        ∙ drop-at (take start c) (wireBits f ++ drop (start + length (wireBits f)) c) start (length-take-le start c (ltb-false (length c) start (none .1 .1 .1 .0)))
+        ap (drop start) (capture-placed f c c′ start w says z ∙ append-assoc (take start c) (wireBits f) (drop (start + length (wireBits f)) c))
+        ∙ drop-at (take start c) (wireBits f ++ drop (start + length (wireBits f)) c) start (length-take-le start c (inside f c c′ start w says z))
 
     -- the image is answered as that of the frame that is read back
     sent-heard : EightBytes f
@@ -95,8 +81,8 @@ module _ (f : Frame) (c c′ : List ℕ) (start : ℕ) (w : Written) (says : out
     unfolding wireBits
     sent-heard b =
         subst (λ (v : List ℕ). answersTo readyListener v ≡ replicate (length v - 2) nothing ++ (handed (readAs f) ∷ nothing ∷ []))
-        (sym (image-back f frame-taken b))
-        (ready-hears (readAs f) (legal-back f frame-taken b))
+        (sym (image-back f taken b))
+        (ready-hears (readAs f) (legal-back f taken b))
 
     handed-out : EightBytes f → found readyListener c′ start ≡ handedOut f start
     handed-out b =

@@ -7,11 +7,11 @@ use native.Mathlib.Omega.{arith}
 use lib.Dec.{eqb}
 use lib.ListN.{length, take, drop, getD, length-append, length-drop, List·getD-append}
 use lib.Seq.{getD-append-add, getD-take, getD-drop, length-take-le}
-use borrow.Author.Tests.{eq-eqb, ne-eqb, eqb-true, eqb-false, ltb-false}
+use borrow.Author.Tests.{eq-eqb, ne-eqb, eqb-true, eqb-false}
 use Rattle.wire.specs.declared.frames.Frame.{Frame}
 use Rattle.writer.specs.declared.written.Written.{Written}
 use Rattle.refusals.specs.Refusals.{Row, frameRows, placeRows, frameRefusal, placeRefusal, refusal}
-use Rattle.refusals.specs.RefusalsLaws.{none-exactly, first-append}
+use Rattle.refusals.specs.RefusalsLaws.{first-append, start-fits, bits-fit}
 use Rattle.writer.specs.Writer.{wireBits, Outcome, outcome, refused, placed, answer}
 
 module _ (f : Frame) (c : List ℕ) (start : ℕ) where
@@ -35,14 +35,14 @@ module _ (f : Frame) (c : List ℕ) (start : ℕ) where
   unfolding answer
   answer-placed z = rw (eq-eqb no 0 z)
 
-  -- an image that is placed has room
-  start-inside : no ≡ 0 → start ≤ length c
-  unfolding refusal
-  start-inside z = ltb-false (length c) start (none-exactly rows refl .0 z .1 .1 .1 .0)
-
-  image-inside : no ≡ 0 → length (wireBits f) ≤ length c - start
-  unfolding refusal
-  image-inside z = ltb-false (length c - start) (length (wireBits f)) (none-exactly rows refl .0 z .1 .1 .1 .1 .0)
+  -- not refused: neither by the frame itself nor by the place
+  free : no ≡ 0 → (frameRefusal f ≡ 0) × (placeRefusal (length (wireBits f)) (length c) start ≡ 0)
+  free z = go (eqb (frameRefusal f) 0) refl (sym refusal-first ∙ z)
+    where
+      go : (t : Bool) → eqb (frameRefusal f) 0 ≡ t → cond t (placeRefusal (length (wireBits f)) (length c) start) (frameRefusal f) ≡ 0
+          → (frameRefusal f ≡ 0) × (placeRefusal (length (wireBits f)) (length c) start ≡ 0)
+      go true e q = (eqb-true (frameRefusal f) 0 e, q)
+      go false e q = absurd (eqb-false (frameRefusal f) 0 e q)
 
 -- an image placed: what stands where
 module _ (v c : List ℕ) (start : ℕ) (h : start ≤ length c) where
@@ -107,8 +107,11 @@ module _ (f : Frame) (c c′ : List ℕ) (start : ℕ) (r : Written) (says : out
     none : refusal f (length (wireBits f)) (length c) start ≡ 0
     none = sym refusal-given ∙ z
 
-    inside : start ≤ length c
-    inside = start-inside f c start none
+    pub frame-taken : frameRefusal f ≡ 0
+    frame-taken = free f c start none .0
+
+    pub inside : start ≤ length c
+    inside = start-fits (length (wireBits f)) (length c) start _ refl (free f c start none .1)
 
     outcome-placed : outcome r c′ ≡ placed (wireBits f) c start
     outcome-placed = says ∙ answer-placed f c start none
@@ -129,4 +132,4 @@ module _ (f : Frame) (c c′ : List ℕ) (start : ℕ) (r : Written) (says : out
     written-behind i l = ap (λ (d : List ℕ). getD d i 0) capture-placed ∙ placed-behind (wireBits f) c start inside i l
 
     pub written-length : length c′ ≡ length c
-    written-length = ap length capture-placed ∙ placed-length (wireBits f) c start inside (image-inside f c start none)
+    written-length = ap length capture-placed ∙ placed-length (wireBits f) c start inside (bits-fit (length (wireBits f)) (length c) start _ refl (free f c start none .1))
