@@ -40,6 +40,11 @@ fn judge(window: &str) -> (Option<(usize, String)>, End) {
     let places: Vec<usize> = (0..sound.len()).filter(|&at| !wire::stuff_bit_follows(&sound[..at])).collect();
     let text: String = places.iter().map(|&at| &sound[at..at + 1]).collect();
 
+    // A recessive FDF begins a newer format, whatever comes behind it.
+    if let Some(at) = wire::fdf_at(&text).filter(|&at| text[at..].starts_with('1')) {
+        return (None, End::Trouble(places[at], "newer format begun"));
+    }
+
     let read = match wire::read(&text) {
         Some(read) => read,
         None => return (None, sixth_equal.map_or(End::Cut, |at| End::Trouble(at, "stuff error"))),

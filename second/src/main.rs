@@ -2,6 +2,7 @@
 //! programs of these names, and `make`, which makes inputs for them. See ../README.md.
 
 mod count;
+mod fd;
 mod hear;
 mod make;
 mod notation;

@@ -12,7 +12,8 @@ pub struct Frame {
     pub data: Vec<u8>,
 }
 
-/// What a whole plain text says. `noted` is 4 for a dominant SRR, 2 for a recessive r1, 1 for a recessive r0.
+/// What a whole plain text says. `noted` is 0 for a base frame; for an extended one, 4 for a dominant SRR and 1 for a
+/// recessive r0.
 pub struct Read {
     pub frame: Frame,
     pub noted: u32,
@@ -32,20 +33,30 @@ fn remainder(text: &str) -> u128 {
     rest
 }
 
+/// A text with its CRC behind it.
+pub fn with_crc(covered: &str) -> String {
+    let crc = remainder(&format!("{covered}{:015b}", 0));
+    format!("{covered}{crc:015b}")
+}
+
 /// Every bit from start of frame to the last CRC bit, with no stuff bit.
 pub fn plain(frame: &Frame, noted: u32) -> String {
     let Frame { ident, code, .. } = frame;
     let rtr = u32::from(frame.remote);
-    let (srr, r1, r0) = (1 - (noted >> 2 & 1), noted >> 1 & 1, noted & 1);
+    let (srr, r0) = (1 - (noted >> 2 & 1), noted & 1);
     let (upper, lower) = (ident >> 18, ident & 0x3FFFF);
     let address = match frame.extended {
-        false => format!("0{ident:011b}{rtr}0{r0}"),
-        true => format!("0{upper:011b}{srr}1{lower:018b}{rtr}{r1}{r0}"),
+        false => format!("0{ident:011b}{rtr}00"),
+        true => format!("0{upper:011b}{srr}1{lower:018b}{rtr}0{r0}"),
     };
     let data: String = frame.data.iter().map(|byte| format!("{byte:08b}")).collect();
-    let covered = format!("{address}{code:04b}{data}");
-    let crc = remainder(&format!("{covered}{:015b}", 0));
-    format!("{covered}{crc:015b}")
+    with_crc(&format!("{address}{code:04b}{data}"))
+}
+
+/// Where FDF stands in a plain text that reaches it: r0 of a base frame, r1 of an extended one.
+pub fn fdf_at(text: &str) -> Option<usize> {
+    let at = if text.get(13..14)? == "1" { 33 } else { 14 };
+    (at < text.len()).then_some(at)
 }
 
 /// Reads the frame that a text begins with; none where the text ends too soon.
@@ -60,8 +71,7 @@ pub fn read(text: &str) -> Option<Read> {
     let count = if remote { 0 } else { code.min(8) as usize };
     let data_at = code_at + 4;
     let data = (0..count).map(|k| Some(field(data_at + 8 * k, 8)? as u8)).collect::<Option<_>>()?;
-    let r0 = field(code_at - 1, 1)?;
-    let noted = if extended { 4 * (1 - field(12, 1)?) + 2 * field(33, 1)? + r0 } else { r0 };
+    let noted = if extended { 4 * (1 - field(12, 1)?) + field(34, 1)? } else { 0 };
     let length = data_at + 8 * count + 15;
     // A text that ends in its own CRC is a multiple of the generator, and no other is.
     let crc_is_right = remainder(text.get(..length)?) == 0;
@@ -75,7 +85,7 @@ pub fn stuff_bit_follows(text: &str) -> bool {
 }
 
 /// The text with its stuff bits.
-fn stuff(text: &str) -> String {
+pub fn stuff(text: &str) -> String {
     let mut stuffed = String::new();
     for bit in text.chars() {
         stuffed.push(bit);

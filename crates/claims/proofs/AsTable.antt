@@ -2,7 +2,7 @@
 -- says of the record.
 use Prim.Native.Nat.{ℕ, _+_, _<_}
 use mathlib.Core.Path.{_≡_, refl, sym, ap, ap₂, subst, _∙_}
-use mathlib.Core.Bool.{Bool, true, false, cond}
+use mathlib.Core.Bool.{Bool, true, false, cond, false≢true}
 use mathlib.Core.List.{List, [], _∷_, _++_, append-nil}
 use native.Mathlib.Omega.{arith}
 use lib.Dec.{eqb, leb, ltb}
@@ -13,25 +13,27 @@ use Rattle.wire.specs.Numbers.{five, idle, room}
 use Rattle.wire.specs.Stuffing.{none, ran, ranFrom}
 use Rattle.wire.specs.StuffingLaws.{ran-append, unstuff-append}
 use Rattle.wire.specs.Unstuffing.{unstuffFrom}
-use Rattle.wire.specs.Layout.{Layout, done, part, Got}
+use Rattle.wire.specs.Layout.{Layout, done, part, newer, isNewer, Got}
 use Rattle.wire.specs.LayoutLaws.{Open}
-use Rattle.reader.specs.Reader.{isDone, tookOf}
+use Rattle.reader.specs.Reader.{isDone, isFdf, tookOf}
 use Rattle.moves.specs.declared.places.Place.{Place}
 use Rattle.moves.specs.declared.places.Place.the-variants.{Waiting, Ready, Stuffed, AckSlot, AckDelimiter, EndOfFrame, Intermission}
-use Rattle.moves.specs.declared.places.Fault.the-variants.{StuffError}
+use Rattle.moves.specs.declared.places.Fault.the-variants.{StuffError, NewerFormat}
 use Rattle.moves.specs.declared.moves.Move.{Move}
 use Rattle.moves.specs.declared.moves.Move.the-variants.{Take, Skip, Fail}
 use Rattle.line.specs.declared.inframe.InFrame.{InFrame}
-use Rattle.moves.specs.Moves.{quietAfter}
+use Rattle.moves.specs.Moves.{quietAfter, whenFdf}
 use Rattle.line.specs.Core.{newFrame, taken, skipped, slotted, at, moveAt, moved}
 use Rattle.listener.specs.declared.listeners.Listener.{Listener}
 use Rattle.listener.specs.declared.answers.Heard.{Heard}
 use Rattle.listener.specs.Listener.{newListener, keptIn, answerTo, accepted}
 use Rattle.claims.specs.Answers.{said, handed}
-use Rattle.claims.specs.Table.{Where, waiting, ready, stuffed, crcDelimiter, ackSlot, ackDelimiter, endOfFrame, intermission, recessivesFrom, recessives, sixth, reading, ended, onward, checks, row}
-use Rattle.claims.proofs.Follows.{Follows}
+use Rattle.claims.specs.Table.{Where, waiting, ready, stuffed, crcDelimiter, ackSlot, ackDelimiter, endOfFrame, intermission, recessivesFrom, recessives, sixth, reading, newerBegun, ended, onward, checks, row}
+use Rattle.claims.proofs.Cases.{either}
+use Rattle.claims.proofs.Follows.{isTaken, Follows}
 use Rattle.claims.proofs.Stuffing.{walker, open-onward}
-use Rattle.claims.proofs.Reading.{Taken, taken-new, taken-took}
+use Rattle.claims.proofs.Simulated.{sim-old}
+use Rattle.claims.proofs.Reading.{Taken, taken-new, begins-newer, taken-took}
 use Rattle.claims.proofs.Held.{Complete, completes, received-is}
 
 -- THE COUNT OF RECESSIVE SAMPLES
@@ -85,20 +87,25 @@ pub record Stands (h : List ℕ) (l : Listener) (p : Where) : Type 0 where
 pub stands-new : Stands [] newListener waiting
 stands-new = record { size = refl; quiet = refl; place = waits }
 
--- where the stuffed part leads
-onward-at : (s : List ℕ) (f : InFrame) (bytes : List ℕ) → InStuffed s f bytes → At (onward s) Stuffed f bytes
-onward-at s f bytes i = go (eqb (ranFrom none s .len) five) refl
-  where
-    read : reading s ≡ walker (i .taken) .rest
-    read = ap (λ (l : List ℕ). walker (drop 1 l) .rest) (i .bits)
+module _ (s : List ℕ) (f : InFrame) (bytes : List ℕ) (i : InStuffed s f bytes) where
+  read : reading s ≡ walker (i .taken) .rest
+  read = ap (λ (l : List ℕ). walker (drop 1 l) .rest) (i .bits)
 
-    by : eqb (ranFrom none s .len) five ≡ false → (l : Layout Got) → reading s ≡ l → At (ended l s) Stuffed f bytes
-    by e (done g) q = delimits (ap (λ (u : Run). eqb (u .len) five) (i .run) ∙ e) (completes f bytes (i .taken) g (i .reader) (sym read ∙ q))
-    by e (part w k) q = stuffs i (rw (e, q))
+  -- what was taken begins no newer format
+  old : newerBegun s ≡ false
+  old = ap isNewer read ∙ sim-old (f .reader) bytes (walker (i .taken)) (i .reader .sim)
 
-    go : (t : Bool) → eqb (ranFrom none s .len) five ≡ t → At (cond t (stuffed s) (ended (reading s) s)) Stuffed f bytes
-    go true e = stuffs i (rw e)
-    go false e = by e (reading s) refl
+  -- where the stuffed part leads
+  onward-at : At (onward s) Stuffed f bytes
+  onward-at = by (reading s) refl
+    where
+      by : (l : Layout Got) → reading s ≡ l → At (ended l s) Stuffed f bytes
+      by (done g) q =
+          either (λ (p : Where). At p Stuffed f bytes) (eqb (ranFrom none s .len) five)
+          (λ e. stuffs i (rw (q, e)))
+          (λ e. delimits (ap (λ (u : Run). eqb (u .len) five) (i .run) ∙ e) (completes f bytes (i .taken) g (i .reader) (sym read ∙ q)))
+      by (part w k) q = stuffs i (rw q)
+      by newer q = absurd (false≢true (sym old ∙ ap isNewer q))
 
 begins : (bytes : List ℕ) → length bytes ≡ room → At (stuffed (0 ∷ [])) Stuffed newFrame bytes
 begins bytes size = stuffs (record { run = refl; taken = []; bits = refl; reader = taken-new bytes size }) refl
@@ -218,15 +225,33 @@ module _ (h : List ℕ) (b q : ℕ) (bit : b < 2) (quiet : q ≡ capped (recessi
           go : (l : Layout Got) → Follows (f .reader .field) (f .reader .registers) bytes l → Open l → isDone (f .reader .field) ≡ false
           go (done g) k o = absurd o
           go (part n m) k o = k .0
+          go newer k o = absurd o
 
-      taken-in : eqb (ranFrom none s .len) five ≡ false → InStuffed (s ++ (b ∷ [])) (taken f b) (keptIn bytes (tookOf (f .reader) b .kept))
-      taken-in e =
+      more-bits : eqb (ranFrom none s .len) five ≡ false → unstuffFrom none (s ++ (b ∷ [])) ≡ 0 ∷ (i .taken ++ (b ∷ []))
+      more-bits e = unstuff-append none s (b ∷ []) ∙ rw e (ap (λ (l : List ℕ). l ++ (b ∷ [])) (i .bits))
+
+      taken-in : eqb (ranFrom none s .len) five ≡ false → isTaken (f .reader .field) b ≡ true
+          → InStuffed (s ++ (b ∷ [])) (taken f b) (keptIn bytes (tookOf (f .reader) b .kept))
+      taken-in e y =
           record {
             run = run-more;
             taken = i .taken ++ (b ∷ []);
-            bits = unstuff-append none s (b ∷ []) ∙ rw e (ap (λ (l : List ℕ). l ++ (b ∷ [])) (i .bits));
-            reader = taken-took f bytes (i .taken) b (i .reader) (live e) bit;
+            bits = more-bits e;
+            reader = taken-took f bytes (i .taken) b (i .reader) (live e) bit y;
           }
+
+      newer-in : eqb (ranFrom none s .len) five ≡ false → isTaken (f .reader .field) b ≡ false → newerBegun (s ++ (b ∷ [])) ≡ true
+      newer-in e y =
+          ap (λ (l : List ℕ). isNewer (walker (drop 1 l) .rest)) (more-bits e)
+          ∙ ap isNewer (begins-newer f bytes (i .taken) b (i .reader) (live e) bit y)
+
+      -- a bit of the frame is taken, but for a recessive FDF
+      move-bit : (t : Bool) → isTaken (f .reader .field) b ≡ t → cond (isFdf (f .reader .field)) (whenFdf b) Take ≡ cond t Take (Fail NewerFormat)
+      move-bit t y = go (isFdf (f .reader .field)) y
+        where
+          go : (d : Bool) → cond d (eqb b 0) true ≡ t → cond d (whenFdf b) Take ≡ cond t Take (Fail NewerFormat)
+          go true q = rw q
+          go false q = ap (λ (x : Bool). cond x Take (Fail NewerFormat)) q
 
       step-stuffed : Steps h (stuffed s) b (hears Stuffed f bytes b q)
       step-stuffed = go (eqb (ranFrom none s .len) five) refl (eqb b (ranFrom none s .last)) refl
@@ -238,13 +263,24 @@ module _ (h : List ℕ) (b q : ℕ) (bit : b < 2) (quiet : q ≡ capped (recessi
               becomes (Fail StuffError) (rw (five-is true e, last-is true v)) (record { says = rw z; stands = rw z (stood size waits) })
           go true e false v =
               let z : sixth s b ≡ false = rw (e, v) in
+              let j : InStuffed (s ++ (b ∷ [])) (skipped f b) bytes = skipped-in e in
+              let n : newerBegun (s ++ (b ∷ [])) ≡ false = old (s ++ (b ∷ [])) (skipped f b) bytes j in
               becomes Skip (rw (five-is true e, last-is false v))
-              (record { says = rw z; stands = rw z (stood size (onward-at (s ++ (b ∷ [])) (skipped f b) bytes (skipped-in e))) })
-          go false e v w =
-              let z : sixth s b ≡ false = rw e in
-              let j : InStuffed (s ++ (b ∷ [])) (taken f b) (keptIn bytes (tookOf (f .reader) b .kept)) = taken-in e in
-              becomes Take (rw (five-is false e, live e))
-              (record { says = rw z; stands = rw z (stood (j .reader .size) (onward-at (s ++ (b ∷ [])) (taken f b) (keptIn bytes (tookOf (f .reader) b .kept)) j)) })
+              (record { says = rw (z, n); stands = rw (z, n) (stood size (onward-at (s ++ (b ∷ [])) (skipped f b) bytes j)) })
+          go false e v w = bit-of (isTaken (f .reader .field) b) refl
+            where
+              z : sixth s b ≡ false
+              z = rw e
+
+              bit-of : (t : Bool) → isTaken (f .reader .field) b ≡ t → Steps h (stuffed s) b (hears Stuffed f bytes b q)
+              bit-of true y =
+                  let j : InStuffed (s ++ (b ∷ [])) (taken f b) (keptIn bytes (tookOf (f .reader) b .kept)) = taken-in e y in
+                  let n : newerBegun (s ++ (b ∷ [])) ≡ false = old (s ++ (b ∷ [])) (taken f b) (keptIn bytes (tookOf (f .reader) b .kept)) j in
+                  becomes Take (rw (five-is false e, live e) (move-bit true y))
+                  (record { says = rw (z, n); stands = rw (z, n) (stood (j .reader .size) (onward-at (s ++ (b ∷ [])) (taken f b) (keptIn bytes (tookOf (f .reader) b .kept)) j)) })
+              bit-of false y =
+                  let n : newerBegun (s ++ (b ∷ [])) ≡ true = newer-in e y in
+                  becomes (Fail NewerFormat) (rw (five-is false e, live e) (move-bit false y)) (record { says = rw (z, n); stands = rw (z, n) (stood size waits) })
 
     step-at : (p : Where) (c : Place) → At p c f bytes → Steps h p b (hears c f bytes b q)
     step-at waiting Waiting waits = step-waiting

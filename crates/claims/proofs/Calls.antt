@@ -1,31 +1,37 @@
 -- The table's laws brought to the calls: what holds of the table holds of every record reached from a new one.
 use Prim.Native.Nat.{ℕ, zero, suc, _<_}
 use mathlib.Core.Path.{_≡_, refl, sym, ap, subst, _∙_}
-use mathlib.Core.Bool.{true}
+use mathlib.Core.Bool.{Bool, true}
 use mathlib.Core.List.{List, [], _∷_, _++_}
 use native.Mathlib.Omega.{arith}
 use lib.Dec.{ltb, lit<}
 use lib.ListN.{take}
 use borrow.Author.Tests.{ltb-true}
+use Rattle.wire.specs.declared.idents.Ident.{Ident}
 use Rattle.wire.specs.declared.frames.Received.{Received}
 use Rattle.wire.specs.BitsLaws.{AllBits, all-bits-append}
-use Rattle.wire.specs.ImageLaws.{image-bits}
+use Rattle.wire.specs.StuffingLaws.{stuff-bits}
+use Rattle.wire.specs.Fields.{raw}
+use Rattle.wire.specs.FieldsLaws.{raw-bits}
+use Rattle.wire.specs.ImageLaws.{begun, image-bits}
 use Rattle.wire.specs.Image.{image}
-use Rattle.wire.specs.Legal.{Legal}
+use Rattle.wire.specs.Legal.{IdentIn, Legal}
 use Rattle.moves.specs.declared.places.Place.{Place}
-use Rattle.moves.specs.declared.places.Place.the-variants.{Ready}
+use Rattle.moves.specs.declared.places.Place.the-variants.{Waiting, Ready, Stuffed, AckSlot, AckDelimiter, EndOfFrame, Intermission}
 use Rattle.line.specs.declared.inframe.InFrame.{InFrame}
 use Rattle.listener.specs.declared.listeners.Listener.{Listener}
 use Rattle.listener.specs.Listener.{newListener, fits, heard}
 use Rattle.claims.specs.Answers.{Said, handed, refused, said}
-use Rattle.claims.specs.Table.{Where, waiting, ready, intermission, whereFrom, saysFrom}
+use Rattle.claims.specs.Table.{Where, waiting, ready, stuffed, crcDelimiter, ackSlot, ackDelimiter, endOfFrame, intermission, whereFrom, saysFrom}
 use Rattle.claims.specs.Numbers.{settling}
 use Rattle.claims.specs.Lines.{recessive, Piece, lineOf, Line, reply, repliesTo, CameFrom}
+use Rattle.claims.specs.Newer.{beforeFdf, newerStart, newerReply}
 use Rattle.claims.specs.Histories.{Listening, answersTo, reached, acceptedOf, tableAnswers}
 use Rattle.claims.proofs.Cases.{either}
 use Rattle.claims.proofs.AsTable.{At, waits, readies, stuffs, delimits, slots, acks, ends, rests}
 use Rattle.claims.proofs.Trace.{where-append}
 use Rattle.claims.proofs.Complete.{Idle, is-ready, is-third, hears-image}
+use Rattle.claims.proofs.Newer.{hears-newer}
 use Rattle.claims.proofs.Lines.{hears-line}
 use Rattle.claims.proofs.Seventeen.{seventeen}
 use Rattle.claims.proofs.Caution.{caution}
@@ -33,15 +39,25 @@ use Rattle.claims.proofs.Reached.{good-new, good-reached, says-row, hea
 
 -- PLACES OF THE TABLE AND OF THE RECORD
 
-place-ready : {p : Where} {c : Place} {f : InFrame} {bytes : List ℕ} → At p c f bytes → p ≡ ready → c ≡ Ready
-place-ready waits e = cc
-place-ready readies e = refl
-place-ready (stuffs i q) e = cc
-place-ready (delimits u c) e = cc
-place-ready (slots c) e = cc
-place-ready (acks c) e = cc
-place-ready (ends c) e = cc
-place-ready rests e = cc
+abbrev placeOf : Where → Place
+placeOf waiting = Waiting
+placeOf ready = Ready
+placeOf (stuffed s) = Stuffed
+placeOf (crcDelimiter g) = Stuffed
+placeOf (ackSlot g) = AckSlot
+placeOf (ackDelimiter g a) = AckDelimiter
+placeOf (endOfFrame k g a) = EndOfFrame k
+placeOf (intermission k) = Intermission k
+
+place-at : {p : Where} {c : Place} {f : InFrame} {bytes : List ℕ} → At p c f bytes → c ≡ placeOf p
+place-at waits = refl
+place-at readies = refl
+place-at (stuffs i q) = refl
+place-at (delimits u c) = refl
+place-at (slots c) = refl
+place-at (acks c) = refl
+place-at (ends c) = refl
+place-at rests = refl
 
 -- where a dominant bit is a start of frame
 idle-at : {p : Where} {c : Place} {f : InFrame} {bytes : List ℕ} → At p c f bytes → Listening c → Idle p
@@ -69,15 +85,21 @@ fits-reached h = good-reached h .fit
 pub as-table : (h : List ℕ) → answersTo newListener h ≡ tableAnswers [] waiting h
 as-table h = calls-say h [] newListener waiting good-new
 
+-- where samples lead behind a history
+table-more : (h xs : List ℕ) → AllBits xs → tableAfter (h ++ xs) ≡ whereFrom (acceptedOf h) (tableAfter h) xs
+table-more h xs a =
+    ap (whereFrom [] waiting) (accepted-append h xs ∙ ap (λ (l : List ℕ). acceptedOf h ++ l) (accepted-bits xs a))
+    ∙ where-append [] waiting (acceptedOf h) xs
+
+place-reached : (h : List ℕ) (p : Where) → tableAfter h ≡ p → reached h .core .place ≡ placeOf p
+place-reached h p e = place-at (good-reached h .stands .place) ∙ ap placeOf e
+
 -- seventeen recessive samples
 settled : (h : List ℕ) → tableAfter (h ++ recessive settling) ≡ ready
-settled h =
-    ap (whereFrom [] waiting) (accepted-append h (recessive settling) ∙ ap (λ (l : List ℕ). acceptedOf h ++ l) (accepted-bits (recessive settling) (ones-bits settling)))
-    ∙ where-append [] waiting (acceptedOf h) (recessive settling)
-    ∙ seventeen (acceptedOf h) (tableAfter h) (good-reached h .valid)
+settled h = table-more h (recessive settling) (ones-bits settling) ∙ seventeen (acceptedOf h) (tableAfter h) (good-reached h .valid)
 
 pub ready-again : (h : List ℕ) → reached (h ++ recessive settling) .core .place ≡ Ready
-ready-again h = place-ready (good-reached (h ++ recessive settling) .stands .place) (settled h)
+ready-again h = place-reached (h ++ recessive settling) ready (settled h)
 
 -- an image
 pub image-heard : (h : List ℕ) (r : Received) → Legal r → Listening (reached h .core .place) → answersTo (reached h) (image r) ≡ reply r
@@ -86,6 +108,23 @@ image-heard h r l i =
     calls-say (image r) (acceptedOf h) (reached h) (tableAfter h) g
     ∙ answers-bits (image r) (acceptedOf h) (tableAfter h) (image-bits r)
     ∙ hears-image (tableAfter h) r (idle-at (g .stands .place) i) l (acceptedOf h) .0
+
+-- a newer format
+newer-bits : (i : Ident) (remote : Bool) (srr : ℕ) → AllBits (newerStart i remote srr)
+newer-bits i remote srr =
+    let xs : List ℕ = raw (beforeFdf i remote srr) in
+    (lit< tt, stuff-bits begun (xs ++ (1 ∷ [])) (all-bits-append xs (1 ∷ []) (raw-bits (beforeFdf i remote srr)) (lit< tt, tt)))
+
+pub newer-heard : (h : List ℕ) (i : Ident) (remote : Bool) (srr : ℕ) → IdentIn i → srr < 2 → Listening (reached h .core .place)
+    → (answersTo (reached h) (newerStart i remote srr) ≡ newerReply (newerStart i remote srr)) × (reached (h ++ newerStart i remote srr) .core .place ≡ Waiting)
+newer-heard h i remote srr hi hs k =
+    let g = good-reached h in
+    let xs : List ℕ = newerStart i remote srr in
+    let a : AllBits xs = newer-bits i remote srr in
+    let t = hears-newer (tableAfter h) (idle-at (g .stands .place) k) i remote srr hi hs (acceptedOf h) in (
+      calls-say xs (acceptedOf h) (reached h) (tableAfter h) g ∙ answers-bits xs (acceptedOf h) (tableAfter h) a ∙ t .0,
+      place-reached (h ++ xs) waiting (table-more h xs a ∙ t .1),
+    )
 
 -- a line
 line-bits : (ps : List Piece) (k : ℕ) → AllBits (lineOf ps k)

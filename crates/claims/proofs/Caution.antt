@@ -21,8 +21,8 @@ use Rattle.wire.specs.ImageLaws.{gotOf, begun, image-parts}
 use Rattle.wire.specs.Legal.{Legal}
 use Rattle.wire.specs.Layout.{Got}
 use Rattle.wire.specs.FramesLaws.{gotFields, GotIn}
-use Rattle.claims.specs.Answers.{Said, nothing, handed, stuffError, formError, crcError, overload, refused}
-use Rattle.claims.specs.Table.{Where, waiting, ready, stuffed, crcDelimiter, ackSlot, ackDelimiter, endOfFrame, intermission, Row, sixth, checks, receivedFrom, row}
+use Rattle.claims.specs.Answers.{Said, nothing, handed, stuffError, formError, crcError, overload, newerFormat, refused}
+use Rattle.claims.specs.Table.{Where, waiting, ready, stuffed, crcDelimiter, ackSlot, ackDelimiter, endOfFrame, intermission, Row, sixth, newerBegun, checks, receivedFrom, row}
 use Rattle.claims.specs.Numbers.{quiet}
 use Rattle.claims.specs.Lines.{recessive, allButLast, CameFrom}
 use Rattle.claims.proofs.Cases.{either}
@@ -46,6 +46,7 @@ isHanded stuffError = false
 isHanded formError = false
 isHanded crcError = false
 isHanded overload = false
+isHanded newerFormat = false
 isHanded (refused n) = false
 
 same-handed : (r s : Received) → handed r ≡ handed s → r ≡ s
@@ -61,7 +62,9 @@ module _ (h : List ℕ) (b : ℕ) (r : Received) where
   hands : (p : Where) → Tells p (row h p b)
   hands waiting = no nothing refl
   hands ready = no nothing refl
-  hands (stuffed s) = either (Tells (stuffed s)) (sixth s b) (λ _. no stuffError refl) (λ _. no nothing refl)
+  hands (stuffed s) =
+      either (Tells (stuffed s)) (sixth s b) (λ _. no stuffError refl)
+      (λ _. either (Tells (stuffed s)) (newerBegun (s ++ (b ∷ []))) (λ _. no newerFormat refl) (λ _. no nothing refl))
   hands (crcDelimiter g) = either (Tells (crcDelimiter g)) (eqb b 0) (λ _. no formError refl) (λ _. no nothing refl)
   hands (ackSlot g) = no nothing refl
   hands (ackDelimiter g x) =

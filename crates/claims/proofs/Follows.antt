@@ -10,27 +10,37 @@ use lib.ListN.{length, take, drop, set}
 use lib.Seq.{sets, sets-eq, take-append-seam}
 use lib.Dec.{eqb}
 use borrow.Author.Tests.{lt-ltb, le-ltb, eqb-true, eqb-false}
-use Rattle.wire.specs.Numbers.{room, srrNoted, r1Noted, r0Noted, baseWidth, lowerWidth, crcWidth}
+use Rattle.wire.specs.Numbers.{room, srrNoted, r0Noted, baseWidth, lowerWidth, crcWidth}
 use Rattle.wire.specs.Stuffing.{opposite}
 use Rattle.wire.specs.Fields.{notedSum, joined, carried}
 use Rattle.wire.specs.FieldsLaws.{carried-le}
-use Rattle.wire.specs.Layout.{Layout, done, part, Got, bytesOf, restOf, baseRest, extendedRest, frames}
+use Rattle.wire.specs.Layout.{Layout, done, part, newer, Got, bytesOf, restOf, fdfThen, baseRest, extendedRest, frames}
 use Rattle.wire.specs.declared.idents.Ident.{Ident}
 use Rattle.wire.specs.declared.idents.Ident.the-variants.{Base, Extended}
 use Rattle.reader.specs.declared.fields.Field.{Field}
-use Rattle.reader.specs.declared.fields.Field.the-variants.{Upper, Lower, R0, Code, Crc}
+use Rattle.reader.specs.declared.fields.Field.the-variants.{Upper, Lower, Fdf, Code, Crc}
 use Rattle.reader.specs.declared.registers.Registers.{Registers}
-use Rattle.reader.specs.Reader.{widthOf, isDone, newRegisters, remoteOf, identOf, noteOf, notedOf, bytesToCome, putOf, keptOf, dataOrCrc, nextOf}
+use Rattle.reader.specs.Reader.{widthOf, isDone, isFdf, newRegisters, remoteOf, identOf, noteOf, notedOf, bytesToCome, putOf, keptOf, dataOrCrc, afterFdf, nextOf}
 use Rattle.listener.specs.Listener.{keptIn}
 
 -- what registers and data bytes hold
 abbrev pub held : Registers → List ℕ → Got
 held g bytes = record { ident = identOf g; remote = remoteOf g; code = g .code; bytes = take (bytesToCome g) bytes; noted = notedOf g; crc = g .crc }
 
+-- a recessive FDF is not taken
+abbrev pub isTaken : Field → ℕ → Bool
+isTaken f v = cond (isFdf f) (eqb v 0) true
+
+-- behind a bit that is taken P holds; behind one that is not a newer format has begun
+abbrev pub Behind : Bool → Layout Got → Type 0 → Type 0
+Behind true l P = P
+Behind false l P = l ≡ newer
+
 abbrev pub Follows : Field → Registers → List ℕ → Layout Got → Type 0
 Follows f g bytes (done a) = (isDone f ≡ true) × (held g bytes ≡ a)
 Follows f g bytes (part w k) =
-    (isDone f ≡ false) × (widthOf f ≡ w) × ((v : ℕ) → v < 2 ^ w → Follows (nextOf (putOf g f v) f) (putOf g f v) (keptIn bytes (keptOf f v)) (k v))
+    (isDone f ≡ false) × (widthOf f ≡ w) × ((v : ℕ) → v < 2 ^ w → Behind (isTaken f v) (k v) (Follows (nextOf (putOf g f v) f) (putOf g f v) (keptIn bytes (keptOf f v)) (k v)))
+Follows f g bytes newer = ⊥
 
 -- DATA BYTES
 
@@ -59,7 +69,7 @@ bytes-follow (suc m) i n g bytes k q e h z =
 -- LENGTH CODE, DATA AND CRC
 
 abbrev withCode : Registers → ℕ → Registers
-withCode g c = record { upper = g .upper; srr = g .srr; ide = g .ide; lower = g .lower; rtr = g .rtr; r1 = g .r1; r0 = g .r0; code = c; crc = g .crc }
+withCode g c = record { upper = g .upper; srr = g .srr; ide = g .ide; lower = g .lower; rtr = g .rtr; r0 = g .r0; code = c; crc = g .crc }
 
 same-got : {i j : Ident} {s t : Bool} {c n m x : ℕ} {bs ds : List ℕ} → i ≡ j → s ≡ t → bs ≡ ds → n ≡ m
     → _≡_ {A = Got} (record { ident = i; remote = s; code = c; bytes = bs; noted = n; crc = x }) (record { ident = j; remote = t; code = c; bytes = ds; noted = m; crc = x })
@@ -99,20 +109,24 @@ note-srr zero h = refl
 note-srr (suc zero) h = refl
 note-srr (suc (suc s)) h = absurd (omega arith)
 
-abbrev heads : ℕ → ℕ → ℕ → ℕ → ℕ → ℕ → ℕ → Registers
-heads u s i l x y z = record { upper = u; srr = s; ide = i; lower = l; rtr = x; r1 = y; r0 = z; code = 0; crc = 0 }
+abbrev heads : ℕ → ℕ → ℕ → ℕ → ℕ → ℕ → Registers
+heads u s i l x z = record { upper = u; srr = s; ide = i; lower = l; rtr = x; r0 = z; code = 0; crc = 0 }
+
+-- FDF, where what is behind a dominant one follows
+fdf-follows : (g : Registers) (bytes : List ℕ) (l : Layout Got) → Follows (afterFdf (g .ide)) g bytes l → Follows Fdf g bytes (fdfThen l)
+fdf-follows g bytes l k = (refl, refl, λ (v : ℕ) (h : v < 2 ^ 1). go (eqb v 0))
+  where
+    go : (t : Bool) → Behind t (cond t l newer) (Follows (afterFdf (g .ide)) g bytes (cond t l newer))
+    go true = k
+    go false = refl
 
 module _ (bytes : List ℕ) (size : length bytes ≡ room) (u s : ℕ) (hu : u < 2 ^ baseWidth) (hs : s < 2 ^ 1) where
-  base-follows : Follows R0 (heads u s 0 0 0 0 0) bytes (baseRest u s)
-  base-follows = (
-    refl,
-    refl,
-    λ (z : ℕ) (h : z < 2 ^ 1).
-        let n : noteOf z 1 1 ≡ z = note-one z 1 h ∙ omega arith in
-        rw (mod-eq-of-lt h) (rest-follows (heads u s 0 0 0 0 z) bytes (Base (record { 0 = u })) (eqb s 1) z size (ap (λ (v : ℕ). Base (record { 0 = v })) (mod-eq-of-lt hu)) refl n),
-  )
+  base-follows : Follows Fdf (heads u s 0 0 0 0) bytes (baseRest u s)
+  base-follows =
+      fdf-follows (heads u s 0 0 0 0) bytes (restOf (Base (record { 0 = u })) (eqb s 1) 0)
+      (rest-follows (heads u s 0 0 0 0) bytes (Base (record { 0 = u })) (eqb s 1) 0 size (ap (λ (v : ℕ). Base (record { 0 = v })) (mod-eq-of-lt hu)) refl refl)
 
-  extended-follows : Follows Lower (heads u s 1 0 0 0 0) bytes (extendedRest u s)
+  extended-follows : Follows Lower (heads u s 1 0 0 0) bytes (extendedRest u s)
   extended-follows = (
     refl,
     refl,
@@ -121,19 +135,15 @@ module _ (bytes : List ℕ) (size : length bytes ≡ room) (u s : ℕ) (hu : u <
           refl,
           refl,
           λ (x : ℕ) (hx : x < 2 ^ 1).
-              rw (mod-eq-of-lt hx) (
+              rw (mod-eq-of-lt hx)
+              (fdf-follows (heads u s 1 l x 0) bytes (part 1 (λ (z : ℕ). restOf (Extended (record { 0 = joined u l })) (eqb x 1) (notedSum s z))) (
                 refl,
                 refl,
-                λ (y : ℕ) (hy : y < 2 ^ 1).
-                    rw (mod-eq-of-lt hy) (
-                      refl,
-                      refl,
-                      λ (z : ℕ) (hz : z < 2 ^ 1).
-                          let n : noteOf s 0 srrNoted + noteOf y 1 r1Noted + noteOf z 1 r0Noted ≡ notedSum s y z = omega (arith, note-srr s hs, note-one y r1Noted hy, note-one z r0Noted hz) in
-                          let d : _≡_ {A = Ident} (Extended (record { 0 = joined (u % 2 ^ baseWidth) (l % 2 ^ lowerWidth) })) (Extended (record { 0 = joined u l })) = rw (mod-eq-of-lt hu, mod-eq-of-lt hl) in
-                          rw (mod-eq-of-lt hz) (rest-follows (heads u s 1 l x y z) bytes (Extended (record { 0 = joined u l })) (eqb x 1) (notedSum s y z) size d refl n),
-                    ),
-              ),
+                λ (z : ℕ) (hz : z < 2 ^ 1).
+                    let n : noteOf s 0 srrNoted + noteOf z 1 r0Noted ≡ notedSum s z = omega (arith, note-srr s hs, note-one z r0Noted hz) in
+                    let d : _≡_ {A = Ident} (Extended (record { 0 = joined (u % 2 ^ baseWidth) (l % 2 ^ lowerWidth) })) (Extended (record { 0 = joined u l })) = rw (mod-eq-of-lt hu, mod-eq-of-lt hl) in
+                    rw (mod-eq-of-lt hz) (rest-follows (heads u s 1 l x z) bytes (Extended (record { 0 = joined u l })) (eqb x 1) (notedSum s z) size d refl n),
+              )),
         ),
   )
 
@@ -152,6 +162,6 @@ follows bytes size = (
 )
   where
     either : (u : ℕ) → u < 2 ^ baseWidth → (s : ℕ) → s < 2 ^ 1 → (i : ℕ) → i < 2 ^ 1 → (t : Bool) → eqb i 0 ≡ t
-        → Follows (cond t R0 Lower) (heads u s i 0 0 0 0) bytes (cond t (baseRest u s) (extendedRest u s))
+        → Follows (cond t Fdf Lower) (heads u s i 0 0 0) bytes (cond t (baseRest u s) (extendedRest u s))
     either u hu s hs i hi true e = let n : i ≡ 0 = eqb-true i 0 e in rw n (base-follows bytes size u s hu hs)
     either u hu s hs i hi false e = let n : i ≡ 1 = omega (arith, eqb-false i 0 e) in rw n (extended-follows bytes size u s hu hs)

@@ -10,6 +10,7 @@ pub mod AsTable
 pub mod Frames
 pub mod Trace
 pub mod Complete
+pub mod Newer
 pub mod Lines
 pub mod Seventeen
 pub mod Marks

@@ -12,7 +12,7 @@ use Rattle.wire.specs.Bits.{xors}
 use Rattle.wire.specs.Crc.{crcStep}
 use Rattle.moves.specs.declared.places.Place.the-variants.{Ready, Intermission}
 use Rattle.moves.specs.declared.places.Fault.{Fault}
-use Rattle.moves.specs.declared.places.Fault.the-variants.{StuffError, FormError, CrcError, Overload}
+use Rattle.moves.specs.declared.places.Fault.the-variants.{StuffError, FormError, CrcError, Overload, NewerFormat}
 use Rattle.line.specs.declared.cores.Core.{Core}
 use Rattle.line.specs.declared.cores.Event.{Event}
 use Rattle.line.specs.declared.cores.Event.the-variants.{Keep, Whole, Failed}
@@ -20,7 +20,7 @@ use Rattle.line.specs.Core.{stepped}
 use Rattle.listener.specs.declared.listeners.Listener.{Listener}
 use Rattle.listener.specs.declared.answers.Heard.{Heard}
 use Rattle.listener.specs.Listener.{newListener, answerTo, accepted, fits, heard}
-use Rattle.claims.specs.Answers.{Said, nothing, handed, stuffError, formError, crcError, overload, refused, faultSaid, said}
+use Rattle.claims.specs.Answers.{Said, nothing, handed, stuffError, formError, crcError, overload, newerFormat, refused, faultSaid, said}
 use Rattle.claims.specs.Table.{Where, waiting, row}
 use Rattle.claims.specs.Histories.{answersTo, afterCalls, reached, acceptedOf, unrefused}
 use Rattle.claims.specs.Numbers.{settling}
@@ -40,6 +40,7 @@ isRefused stuffError = false
 isRefused formError = false
 isRefused crcError = false
 isRefused overload = false
+isRefused newerFormat = false
 isRefused (refused n) = true
 
 -- a sample that is accepted is not refused
@@ -48,6 +49,7 @@ fault-accepted StuffError = refl
 fault-accepted FormError = refl
 fault-accepted CrcError = refl
 fault-accepted Overload = refl
+fault-accepted NewerFormat = refl
 
 event-accepted : (e : Event) (c : Core) (bytes : List ℕ) → isRefused (said (answerTo e c bytes)) ≡ false
 event-accepted (Keep k) c bytes = refl
@@ -95,6 +97,7 @@ keep stuffError ss e = refl
 keep formError ss e = refl
 keep crcError ss e = refl
 keep overload ss e = refl
+keep newerFormat ss e = refl
 keep (refused n) ss e = absurd (false≢true (sym e))
 
 -- a history and its accepted samples lead to one record, and are answered alike
@@ -140,6 +143,7 @@ listener-kept =
       never-seven = never-seven;
       as-table = calls.as-table;
       image-heard = calls.image-heard;
+      newer-begun = calls.newer-heard;
       came-from-image = calls.came-from;
       ready-again = calls.ready-again;
       sixteen = sixteen;

@@ -15,10 +15,10 @@ use Rattle.wire.specs.StuffingLaws.{unstuff-append, unbroken-append, stuff-unst
 use Rattle.wire.specs.Unstuffing.{unstuffFrom, Unbroken}
 use Rattle.wire.specs.Fields.{raw}
 use Rattle.wire.specs.ImageLaws.{begun}
-use Rattle.wire.specs.Layout.{Layout, done, part, Walker, enter, took, Got, frames}
+use Rattle.wire.specs.Layout.{Layout, done, part, newer, Walker, enter, took, Got, frames}
 use Rattle.wire.specs.LayoutLaws.{Open, Stood, stood-new, stood-took, takes-append}
 use Rattle.wire.specs.FramesLaws.{gotFields, GotIn, sized-frames}
-use Rattle.claims.specs.Table.{Where, waiting, ready, stuffed, crcDelimiter, ackSlot, ackDelimiter, endOfFrame, intermission, Row, recessivesFrom, recessives, sixth, reading, ended, onward, checks, row}
+use Rattle.claims.specs.Table.{Where, waiting, ready, stuffed, crcDelimiter, ackSlot, ackDelimiter, endOfFrame, intermission, Row, recessivesFrom, recessives, sixth, reading, newerBegun, ended, onward, checks, row}
 use Rattle.claims.specs.Numbers.{quiet}
 use Rattle.claims.specs.Lines.{recessive}
 use Rattle.claims.proofs.Cases.{either}
@@ -83,6 +83,7 @@ stood-more xs b h s o =
         → Stood frames (took (record { rest = l; left = left; value = v }) b) (xs ++ (b ∷ []))
     go (done a) left v o s = absurd o
     go (part n k) left v o s = stood-took frames n k left v b xs s h
+    go newer left v o s = absurd o
 
 -- samples in the stuffed part: bits, none the sixth equal one, the first a start of frame
 pub record Coded (s : List ℕ) : Type 0 where
@@ -117,17 +118,17 @@ front-is s c g e q =
 
 -- where the stuffed part leads
 marks-onward : (h s : List ℕ) → Since h s → Coded s → Marks h (onward s)
-marks-onward h s w c = go (eqb (ranFrom none s .len) five) refl (reading s) refl
+marks-onward h s w c = go (reading s) refl
   where
     read : reading s ≡ walker (c .taken) .rest
     read = ap (λ (l : List ℕ). walker (drop 1 l) .rest) (c .starts)
 
-    go : (t : Bool) → eqb (ranFrom none s .len) five ≡ t → (l : Layout Got) → reading s ≡ l → Marks h (cond t (stuffed s) (ended l s))
-    go true e l q = (w, c, rw e)
-    go false e (done g) q =
+    go : (l : Layout Got) → reading s ≡ l → Marks h (ended l s)
+    go (done g) q =
         let b = whole-bits (c .taken) g (c .stood) (sym read ∙ q) in
-        (s, w, front-is s c g e (b .0), b .1)
-    go false e (part n k) q = (w, c, rw (e, q))
+        either (Marks h) (eqb (ranFrom none s .len) five) (λ e. (w, c, rw (q, e))) (λ e. (s, w, front-is s c g e (b .0), b .1))
+    go (part n k) q = (w, c, rw q)
+    go newer q = tt
 
 -- a sample that is no sixth equal bit
 coded-more : (s : List ℕ) (b : ℕ) → b < 2 → Coded s → onward s ≡ stuffed s → sixth s b ≡ false → Coded (s ++ (b ∷ []))
@@ -191,7 +192,9 @@ module _ (h : List ℕ) (b : ℕ) (bit : b < 2) (a : AllBits h) where
   marks-row waiting m = either Next (leb idle (recessives (h ++ (b ∷ [])))) (λ e. omega (arith, leb-true idle (recessives (h ++ (b ∷ []))) e)) (λ _. tt)
   marks-row ready m = either Next (eqb b 0) (λ e. marks-start h b a (eqb-true b 0 e) m) (λ e. omega (arith, counted e))
   marks-row (stuffed s) m =
-      either Leads (sixth s b) (λ _. tt) (λ z. marks-onward (h ++ (b ∷ [])) (s ++ (b ∷ [])) (since-snoc h s b (m .0)) (coded-more s b bit (m .1) (m .2) z))
+      either Leads (sixth s b) (λ _. tt)
+      (λ z. either Leads (newerBegun (s ++ (b ∷ []))) (λ _. tt)
+      (λ _. marks-onward (h ++ (b ∷ [])) (s ++ (b ∷ [])) (since-snoc h s b (m .0)) (coded-more s b bit (m .1) (m .2) z)))
   marks-row (crcDelimiter g) m =
       either Leads (eqb b 0) (λ _. tt)
       (λ e. (subst (Since (h ++ (b ∷ []))) (ap (λ (x : ℕ). m .0 ++ (x ∷ [])) (one e) ∙ m .2) (since-snoc h (m .0) b (m .1)), m .3))

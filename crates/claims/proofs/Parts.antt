@@ -2,7 +2,7 @@
 use mathlib.Core.Path.{_≡_, refl, sym, _∙_}
 use mathlib.Core.Bool.{true, false, false≢true}
 use Rattle.reader.specs.declared.fields.Field.{Field}
-use Rattle.reader.specs.declared.fields.Field.the-variants.{Upper, Srr, Ide, Lower, Rtr, R1, R0, Code, Data, Crc, Done}
+use Rattle.reader.specs.declared.fields.Field.the-variants.{Upper, Srr, Ide, Lower, Rtr, Fdf, R0, Code, Data, Crc, Done}
 use Rattle.reader.specs.Reader.{isDone, isSummed}
 
 -- before the CRC, in it, or behind it
@@ -17,7 +17,7 @@ partOf Srr = before refl refl
 partOf Ide = before refl refl
 partOf Lower = before refl refl
 partOf Rtr = before refl refl
-partOf R1 = before refl refl
+partOf Fdf = before refl refl
 partOf R0 = before refl refl
 partOf Code = before refl refl
 partOf (Data i) = before refl refl

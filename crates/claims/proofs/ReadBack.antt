@@ -1,7 +1,7 @@
 -- A frame that the writer takes is sent as the image of the frame that is read back, which is legal: the writer's refusals are what
 -- makes it so.
 use Prim.Native.Nat.{ℕ, _-_, _≤_}
-use mathlib.Core.Path.{_≡_, sym, ap, subst, _∙_}
+use mathlib.Core.Path.{_≡_, refl, sym, ap, subst, _∙_}
 use mathlib.Core.List.{_++_}
 use native.Mathlib.Omega.{arith}
 use lib.ListN.{length, take, replicate, length-take}
@@ -44,8 +44,8 @@ module _ (f : Frame) (ok : frameRefusal f ≡ 0) (b : EightBytes f) where
       }
     where
       noted-in : (i : Ident) → NotedIn i 0
-      noted-in (Base i) = omega arith
-      noted-in (Extended i) = omega arith
+      noted-in (Base i) = refl
+      noted-in (Extended i) = refl
 
   -- the bytes past the count are no part of the image
   pub image-back : image (sentAs f) ≡ image (readAs f)

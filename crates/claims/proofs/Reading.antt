@@ -1,12 +1,12 @@
 -- What a frame that has taken bits holds: its reader follows the layout's, and its register is their CRC. By one step each, from a new frame.
 use Prim.Native.Nat.{ℕ, _<_, _≤_}
-use mathlib.Core.Path.{_≡_, refl, sym, subst, _∙_}
-use mathlib.Core.Bool.{false, false≢true}
+use mathlib.Core.Path.{_≡_, refl, sym, ap, subst, _∙_}
+use mathlib.Core.Bool.{true, false, false≢true}
 use mathlib.Core.List.{List, [], _∷_, _++_}
 use native.Mathlib.Omega.{arith}
 use lib.ListN.{length, length-set}
 use Rattle.wire.specs.Numbers.{room}
-use Rattle.wire.specs.Layout.{Layout, done, part, Walker, wide, enter, took, Got, frames}
+use Rattle.wire.specs.Layout.{Layout, done, part, newer, Walker, wide, enter, took, Got, frames}
 use Rattle.wire.specs.LayoutLaws.{Open, Sized, Stood, stood-new, stood-took, takes-append}
 use Rattle.wire.specs.FramesLaws.{sized-frames}
 use Rattle.reader.specs.declared.readers.Reader.{Reader}
@@ -16,10 +16,10 @@ use Rattle.reader.specs.Reader.{widthOf, isDone, tookOf}
 use Rattle.line.specs.declared.inframe.InFrame.{InFrame}
 use Rattle.line.specs.Core.{newFrame, taken}
 use Rattle.listener.specs.Listener.{keptIn}
-use Rattle.claims.proofs.Follows.{Follows, follows}
+use Rattle.claims.proofs.Follows.{isTaken, Follows, follows}
 use Rattle.claims.proofs.Stuffing.{walker}
 use Rattle.claims.proofs.Parts.{partOf}
-use Rattle.claims.proofs.Simulated.{Sim, wide-is, sim-part}
+use Rattle.claims.proofs.Simulated.{Sim, wide-is, newer-part, sim-part}
 use Rattle.claims.proofs.Summed.{Summed, summed-took}
 
 -- A FRAME THAT HAS TAKEN BITS
@@ -46,6 +46,7 @@ kept-size bytes (Byte i v) e = length-set bytes i v ∙ e
 open-wide : (l : Layout Got) → Open l → Sized l → 0 < wide l
 open-wide (done a) o z = absurd o
 open-wide (part n k) o z = z .0
+open-wide newer o z = absurd o
 
 -- a reader that is not done has a field to read
 open-of : (r : Reader) (bytes : List ℕ) (w : Walker Got) → Sim r bytes w → isDone (r .field) ≡ false → Open (w .rest)
@@ -54,20 +55,37 @@ open-of r bytes w s d = go (w .rest) (s .follows)
     go : (l : Layout Got) → Follows (r .field) (r .registers) bytes l → Open l
     go (done a) k = absurd (false≢true (sym d ∙ k .0))
     go (part n k) _ = tt
+    go newer k = absurd k
+
+-- a bit that is not taken begins a newer format
+pub begins-newer : (f : InFrame) (bytes xs : List ℕ) (b : ℕ) → Taken f bytes xs → isDone (f .reader .field) ≡ false → b < 2
+    → isTaken (f .reader .field) b ≡ false → walker (xs ++ (b ∷ [])) .rest ≡ newer
+begins-newer f bytes xs b t d h q =
+    let w : Walker Got = walker xs in
+    ap (λ (z : Walker Got). z .rest) (takes-append (enter frames) xs (b ∷ []))
+    ∙ go (w .rest) (w .left) (w .value) (open-of (f .reader) bytes w (t .sim) d) (t .sim) (t .stood)
+  where
+    go : (l : Layout Got) (left v : ℕ) → Open l → Sim (f .reader) bytes (record { rest = l; left = left; value = v })
+        → Stood frames (record { rest = l; left = left; value = v }) xs → took (record { rest = l; left = left; value = v }) b .rest ≡ newer
+    go (done a) left v o s k = absurd o
+    go (part n m) left v o s k = newer-part (f .reader) bytes n m left v b xs s k h q
+    go newer left v o s k = absurd o
 
 took-both : (r : Reader) (bytes xs : List ℕ) (b : ℕ) (l : Layout Got) (left v : ℕ) → Open l
     → Sim r bytes (record { rest = l; left = left; value = v }) → Stood frames (record { rest = l; left = left; value = v }) xs → b < 2
+    → isTaken (r .field) b ≡ true
     → Sim (tookOf r b .reader) (keptIn bytes (tookOf r b .kept)) (took (record { rest = l; left = left; value = v }) b) × Stood frames (took (record { rest = l; left = left; value = v }) b) (xs ++ (b ∷ []))
-took-both r bytes xs b (done a) left v o s t h = absurd o
-took-both r bytes xs b (part n k) left v o s t h = (sim-part r bytes n k left v b xs s t h, stood-took frames n k left v b xs t h)
+took-both r bytes xs b (done a) left v o s t h q = absurd o
+took-both r bytes xs b (part n k) left v o s t h q = (sim-part r bytes n k left v b xs s t h q, stood-took frames n k left v b xs t h)
+took-both r bytes xs b newer left v o s t h q = absurd o
 
 pub taken-took : (f : InFrame) (bytes xs : List ℕ) (b : ℕ) → Taken f bytes xs → isDone (f .reader .field) ≡ false → b < 2
-    → Taken (taken f b) (keptIn bytes (tookOf (f .reader) b .kept)) (xs ++ (b ∷ []))
-taken-took f bytes xs b t d h =
+    → isTaken (f .reader .field) b ≡ true → Taken (taken f b) (keptIn bytes (tookOf (f .reader) b .kept)) (xs ++ (b ∷ []))
+taken-took f bytes xs b t d h q =
     let r : Reader = f .reader in
     let w : Walker Got = walker xs in
     let o : Open (w .rest) = open-of r bytes w (t .sim) d in
-    let m = took-both r bytes xs b (w .rest) (w .left) (w .value) o (t .sim) (t .stood) h in
+    let m = took-both r bytes xs b (w .rest) (w .left) (w .value) o (t .sim) (t .stood) h q in
     let e : took w b ≡ walker (xs ++ (b ∷ [])) = sym (takes-append (enter frames) xs (b ∷ [])) in
     let wide-eq : widthOf (r .field) ≡ wide (w .rest) = wide-is (r .field) (r .registers) bytes (w .rest) (t .sim .follows) in
     let some : 0 < r .left = omega (arith, t .sim .left, t .stood .some (open-wide (w .rest) o (t .stood .sized))) in

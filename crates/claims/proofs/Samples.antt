@@ -1,4 +1,4 @@
--- The starred samples hold, each by computing the definitions.
+-- The samples of the table hold, each by computing the definitions.
 use mathlib.Core.Path.{refl}
 use Rattle.wire.specs.Bits.{bits, xors}
 use Rattle.wire.specs.Crc.{crcStep}
@@ -7,4 +7,4 @@ use Rattle.claims.specs.Samples.{Samples}
 
 pub samples-hold : Samples
 unfolding bits xors crcStep next change
-samples-hold = (refl, (refl, (refl, (refl, ((refl, refl), ((refl, refl), (refl, (refl, (refl, ((refl, refl), ((refl, refl), ((refl, refl), ((refl, refl), ((refl, refl), ((refl, refl), tt)))))))))))))))
+samples-hold = (refl, (refl, (refl, (refl, ((refl, refl), ((refl, refl), (refl, (refl, (refl, (refl, (refl, ((refl, refl), ((refl, refl), ((refl, refl), ((refl, refl), ((refl, refl), ((refl, refl), tt)))))))))))))))))

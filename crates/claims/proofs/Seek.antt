@@ -7,7 +7,7 @@ use mathlib.Core.List.{List, [], _∷_, _++_, head-eq-of-cons-eq, tail-eq-of-con
 use native.Mathlib.Omega.{arith}
 use lib.ListN.{length, take, replicate, length-append, length-replicate}
 use Rattle.wire.specs.declared.frames.Received.{Received}
-use Rattle.moves.specs.declared.places.Fault.the-variants.{StuffError, FormError, CrcError, Overload}
+use Rattle.moves.specs.declared.places.Fault.the-variants.{StuffError, FormError, CrcError, Overload, NewerFormat}
 use Rattle.listener.specs.declared.listeners.Listener.{Listener}
 use Rattle.listener.specs.declared.answers.Answer.{Answer}
 use Rattle.listener.specs.declared.answers.Answer.the-variants.{Nothing, Handed, Trouble, Refused}
@@ -29,6 +29,7 @@ nothing-said (Trouble StuffError) r e = cc
 nothing-said (Trouble FormError) r e = cc
 nothing-said (Trouble CrcError) r e = cc
 nothing-said (Trouble Overload) r e = cc
+nothing-said (Trouble NewerFormat) r e = cc
 nothing-said (Refused n) r e = cc
 
 handed-answer : (a : Answer) (q r : Received) → answerSaid a q ≡ handed r → a ≡ Handed
@@ -38,6 +39,7 @@ handed-answer (Trouble StuffError) q r e = cc
 handed-answer (Trouble FormError) q r e = cc
 handed-answer (Trouble CrcError) q r e = cc
 handed-answer (Trouble Overload) q r e = cc
+handed-answer (Trouble NewerFormat) q r e = cc
 handed-answer (Refused n) q r e = cc
 
 handed-frame : (a : Answer) (q r : Received) → a ≡ Handed → answerSaid a q ≡ handed r → q ≡ r

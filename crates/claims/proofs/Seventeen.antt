@@ -10,8 +10,8 @@ use Rattle.wire.specs.declared.runs.Run.{Run}
 use Rattle.wire.specs.Numbers.{five, idle}
 use Rattle.wire.specs.Stuffing.{none, ran, ranFrom}
 use Rattle.wire.specs.StuffingLaws.{ran-append}
-use Rattle.wire.specs.Layout.{Layout, done, part, Got}
-use Rattle.claims.specs.Table.{Where, waiting, ready, stuffed, crcDelimiter, ackSlot, ackDelimiter, endOfFrame, intermission, Row, recessives, sixth, reading, ended, onward, checks, row, whereFrom}
+use Rattle.wire.specs.Layout.{Layout, done, part, newer, Got}
+use Rattle.claims.specs.Table.{Where, waiting, ready, stuffed, crcDelimiter, ackSlot, ackDelimiter, endOfFrame, intermission, Row, recessives, sixth, reading, newerBegun, ended, onward, checks, row, whereFrom}
 use Rattle.claims.specs.Numbers.{settling}
 use Rattle.claims.specs.Lines.{recessive}
 use Rattle.claims.proofs.Cases.{either}
@@ -30,8 +30,9 @@ Valid (endOfFrame k g a) = (0 < k) × (k ≤ 7)
 Valid (intermission k) = (0 < k) × (k ≤ 3)
 
 valid-ended : (l : Layout Got) (s : List ℕ) → Valid (ended l s)
-valid-ended (done g) s = tt
+valid-ended (done g) s = either Valid (eqb (ranFrom none s .len) five) (λ _. tt) (λ _. tt)
 valid-ended (part w k) s = tt
+valid-ended newer s = tt
 
 abbrev Goes : (Where → Type 0) → Row → Type 0
 Goes P r = P (r .goes)
@@ -41,7 +42,7 @@ valid-row h waiting b v = either Valid (leb idle (recessives (h ++ (b ∷ []))))
 valid-row h ready b v = either Valid (eqb b 0) (λ _. tt) (λ _. tt)
 valid-row h (stuffed s) b v =
     either (Goes Valid) (sixth s b) (λ _. tt)
-    (λ _. either Valid (eqb (ranFrom none (s ++ (b ∷ [])) .len) five) (λ _. tt) (λ _. valid-ended (reading (s ++ (b ∷ []))) (s ++ (b ∷ []))))
+    (λ _. either (Goes Valid) (newerBegun (s ++ (b ∷ []))) (λ _. tt) (λ _. valid-ended (reading (s ++ (b ∷ []))) (s ++ (b ∷ []))))
 valid-row h (crcDelimiter g) b v = either (Goes Valid) (eqb b 0) (λ _. tt) (λ _. tt)
 valid-row h (ackSlot g) b v = tt
 valid-row h (ackDelimiter g a) b v =
@@ -101,7 +102,7 @@ module _ (h : List ℕ) where
   Fewer m p = toGo (recessives (h ++ (1 ∷ []))) p ≤ m
 
   falls-onward : (s : List ℕ) → sixth s 1 ≡ false → Fewer (16 - ones (ranFrom none s)) (onward (s ++ (1 ∷ [])))
-  falls-onward s z = go (eqb (ranFrom none (s ++ (1 ∷ [])) .len) five) refl (reading (s ++ (1 ∷ [])))
+  falls-onward s z = go (reading (s ++ (1 ∷ [])))
     where
       u : Run
       u = ranFrom none s
@@ -115,17 +116,21 @@ module _ (h : List ℕ) where
       count : ones (ranFrom none (s ++ (1 ∷ []))) ≡ ones (ranFrom none s) + 1
       count = ap ones (ran-append none s (1 ∷ [])) ∙ ones-more (ranFrom none s) less z
 
+      soon : Fewer (16 - ones (ranFrom none s)) waiting
+      soon = omega (arith, ones-most (ranFrom none s) less)
+
       stays : 17 - ones (ranFrom none (s ++ (1 ∷ []))) ≤ 16 - ones (ranFrom none s)
       stays = omega (arith, count)
 
-      go : (t : Bool) → eqb (ranFrom none (s ++ (1 ∷ [])) .len) five ≡ t → (l : Layout Got)
-          → Fewer (16 - ones (ranFrom none s)) (cond t (stuffed (s ++ (1 ∷ []))) (ended l (s ++ (1 ∷ []))))
-      go true e l = stays
-      go false e (done g) =
+      go : (l : Layout Got) → Fewer (16 - ones (ranFrom none s)) (ended l (s ++ (1 ∷ [])))
+      go (done g) =
+          either (Fewer (16 - ones (ranFrom none s))) (eqb (ranFrom none (s ++ (1 ∷ [])) .len) five) (λ _. stays)
+          (λ e.
           let most : ranFrom none (s ++ (1 ∷ [])) .len ≤ five = len-most none (s ++ (1 ∷ [])) (omega arith) in
           let four : ones (ranFrom none s) ≤ 3 = omega (arith, more, eqb-false (ranFrom none (s ++ (1 ∷ [])) .len) five e) in
-          omega arith
-      go false e (part w k) = stays
+          omega arith)
+      go (part w k) = stays
+      go newer = soon
 
   falls : (p : Where) → Valid p → Fewer (toGo (recessives h) p - 1) (row h p 1 .goes)
   falls waiting v = either (Fewer (toGo (recessives h) waiting - 1)) (leb idle (recessives (h ++ (1 ∷ [])))) (λ _. omega arith) (λ e. omega (arith, counted, leb-false idle (recessives (h ++ (1 ∷ []))) e))
@@ -133,7 +138,9 @@ module _ (h : List ℕ) where
   falls (stuffed s) v =
       let most : ones (ranFrom none s) ≤ five = ones-most (ranFrom none s) (len-most none s (omega arith)) in
       let e : 17 - ones (ranFrom none s) - 1 ≡ 16 - ones (ranFrom none s) = omega arith in
-      rw e (either (λ (r : Row). Fewer (16 - ones (ranFrom none s)) (r .goes)) (sixth s 1) (λ _. omega arith) (λ z. falls-onward s z))
+      rw e
+      (either (λ (r : Row). Fewer (16 - ones (ranFrom none s)) (r .goes)) (sixth s 1) (λ _. omega arith)
+      (λ z. either (λ (r : Row). Fewer (16 - ones (ranFrom none s)) (r .goes)) (newerBegun (s ++ (1 ∷ []))) (λ _. omega arith) (λ _. falls-onward s z)))
   falls (crcDelimiter g) v = omega arith
   falls (ackSlot g) v = omega arith
   falls (ackDelimiter g a) v = either (λ (r : Row). Fewer 10 (r .goes)) (checks g) (λ _. omega arith) (λ _. omega (arith, counted))

@@ -11,10 +11,11 @@ use Rattle.wire.specs.Numbers.{crcWidth, crcGenerator, crcStart, room}
 use Rattle.wire.specs.Crc.{crcStep, crcFrom}
 use Rattle.wire.specs.CrcLaws.{crc-append}
 use Rattle.reader.specs.declared.fields.Field.{Field}
-use Rattle.reader.specs.declared.fields.Field.the-variants.{Upper, Srr, Ide, Lower, Rtr, R1, R0, Code, Data, Crc, Done}
+use Rattle.reader.specs.declared.fields.Field.the-variants.{Upper, Srr, Ide, Lower, Rtr, Fdf, R0, Code, Data, Crc, Done}
 use Rattle.reader.specs.declared.registers.Registers.{Registers}
 use Rattle.reader.specs.declared.readers.Reader.{Reader}
 use Rattle.reader.specs.Reader.{widthOf, isDone, isSummed, putOf, nextOf, dataOrCrc, bytesToCome, shifted, within, turned, tookOf}
+use Rattle.claims.proofs.Cases.{either}
 use Rattle.claims.proofs.Parts.{Part, before, check, behind}
 
 -- THE CRC'S REGISTER
@@ -31,31 +32,22 @@ pub record Summed (f : Field) (left crc : ℕ) (xs : List ℕ) : Type 0 where
   pub size : length after ≡ late f left
 
 -- a field before the CRC leads to one with none of the CRC's bits
-late-data : (i n : ℕ) → late (dataOrCrc i n) (widthOf (dataOrCrc i n)) ≡ 0
-late-data i n = go (ltb i n)
-  where
-    go : (t : Bool) → late (cond t (Data i) Crc) (widthOf (cond t (Data i) Crc)) ≡ 0
-    go true = refl
-    go false = refl
+abbrev NoneCame : Field → Type 0
+NoneCame f = late f (widthOf f) ≡ 0
 
-late-next : (g : Registers) (f : Field) → isSummed f ≡ true → late (nextOf g f) (widthOf (nextOf g f)) ≡ 0
+late-data : (i n : ℕ) → NoneCame (dataOrCrc i n)
+late-data i n = either NoneCame (ltb i n) (λ _. refl) (λ _. refl)
+
+late-next : (g : Registers) (f : Field) → isSummed f ≡ true → NoneCame (nextOf g f)
 late-next g Upper e = refl
 late-next g Srr e = refl
-late-next g Ide e = go (eqb (g .ide) 0)
-  where
-    go : (t : Bool) → late (cond t R0 Lower) (widthOf (cond t R0 Lower)) ≡ 0
-    go true = refl
-    go false = refl
+late-next g Ide e = either NoneCame (eqb (g .ide) 0) (λ _. refl) (λ _. refl)
 late-next g Lower e = refl
 late-next g Rtr e = refl
-late-next g R1 e = refl
+late-next g Fdf e = either NoneCame (eqb (g .ide) 0) (λ _. refl) (λ _. refl)
 late-next g R0 e = refl
 late-next g Code e = late-data 0 (bytesToCome g)
-late-next g (Data i) e = go (ltb i room)
-  where
-    go : (t : Bool) → late (cond t (dataOrCrc (i + 1) (bytesToCome g)) Crc) (widthOf (cond t (dataOrCrc (i + 1) (bytesToCome g)) Crc)) ≡ 0
-    go true = late-data (i + 1) (bytesToCome g)
-    go false = refl
+late-next g (Data i) e = either NoneCame (ltb i room) (λ _. late-data (i + 1) (bytesToCome g)) (λ _. refl)
 late-next g Crc e = absurd (false≢true e)
 late-next g Done e = absurd (false≢true e)
 

@@ -2,7 +2,7 @@
 use Prim.Native.Nat.{ℕ}
 use Rattle.wire.specs.declared.frames.Received.{Received}
 use Rattle.moves.specs.declared.places.Fault.{Fault}
-use Rattle.moves.specs.declared.places.Fault.the-variants.{StuffError, FormError, CrcError, Overload}
+use Rattle.moves.specs.declared.places.Fault.the-variants.{StuffError, FormError, CrcError, Overload, NewerFormat}
 use Rattle.listener.specs.declared.answers.Answer.{Answer}
 use Rattle.listener.specs.declared.answers.Answer.the-variants.{Nothing, Handed, Trouble, Refused}
 use Rattle.listener.specs.declared.answers.Heard.{Heard}
@@ -14,6 +14,7 @@ pub data Said : Type 0 where
   formError : Said
   crcError : Said
   overload : Said
+  newerFormat : Said
   refused : ℕ → Said
 
 abbrev pub faultSaid : Fault → Said
@@ -21,6 +22,7 @@ faultSaid StuffError = stuffError
 faultSaid FormError = formError
 faultSaid CrcError = crcError
 faultSaid Overload = overload
+faultSaid NewerFormat = newerFormat
 
 abbrev pub answerSaid : Answer → Received → Said
 answerSaid Nothing r = nothing

@@ -9,7 +9,7 @@ use Rattle.moves.specs.declared.places.Place.{Place}
 use Rattle.moves.specs.declared.places.Place.the-variants.{Waiting, Ready, Stuffed, AckSlot, AckDelimiter, EndOfFrame, Intermission}
 use Rattle.listener.specs.declared.listeners.Listener.{Listener}
 use Rattle.listener.specs.Listener.{newListener, heard}
-use Rattle.claims.specs.Answers.{Said, nothing, handed, stuffError, formError, crcError, overload, refused, said}
+use Rattle.claims.specs.Answers.{Said, nothing, handed, stuffError, formError, crcError, overload, newerFormat, refused, said}
 use Rattle.claims.specs.Table.{Where, row}
 
 -- the record after a history, and what its calls say
@@ -49,6 +49,7 @@ unrefused (stuffError ∷ ss) = stuffError ∷ unrefused ss
 unrefused (formError ∷ ss) = formError ∷ unrefused ss
 unrefused (crcError ∷ ss) = crcError ∷ unrefused ss
 unrefused (overload ∷ ss) = overload ∷ unrefused ss
+unrefused (newerFormat ∷ ss) = newerFormat ∷ unrefused ss
 unrefused (refused n ∷ ss) = unrefused ss
 
 -- what the table says of calls: a byte that is neither 0 nor 1 is refused with 6, and counts as never offered

@@ -2,6 +2,7 @@ pub mod Numbers
 pub mod Answers
 pub mod Table
 pub mod Lines
+pub mod Newer
 pub mod Histories
 pub mod Sixteen
 pub mod ReadBack

@@ -1,20 +1,21 @@
 -- THE PROMISES, as statements, kept by `kept` of proofs/Kept.antt. This file is the one to read; docs/PROMISES.md goes through it sentence by sentence.
-use Prim.Native.Nat.{ℕ, _+_, _-_, _≤_}
+use Prim.Native.Nat.{ℕ, _+_, _-_, _≤_, _<_}
 use mathlib.Core.Path.{_≡_}
-use mathlib.Core.Bool.{true, false}
+use mathlib.Core.Bool.{Bool, true, false}
 use mathlib.Core.Logic.{_⊎_, _↔_}
 use mathlib.Core.List.{List, [], _∷_, _++_}
 use lib.ListN.{length, take, drop, replicate}
+use Rattle.wire.specs.declared.idents.Ident.{Ident}
 use Rattle.wire.specs.declared.frames.Frame.{Frame}
 use Rattle.wire.specs.declared.frames.Received.{Received}
 use Rattle.wire.specs.Image.{image}
 use Rattle.wire.specs.ImageLaws.{longest}
-use Rattle.wire.specs.Legal.{Legal}
+use Rattle.wire.specs.Legal.{IdentIn, Legal}
 use Rattle.writer.specs.declared.written.Written.{Written}
 use Rattle.refusals.specs.Refusals.{frameRefusal}
 use Rattle.writer.specs.Exactly.{Exactly}
 use Rattle.writer.specs.Writer.{sentAs, outcome, answer}
-use Rattle.moves.specs.declared.places.Place.the-variants.{Ready}
+use Rattle.moves.specs.declared.places.Place.the-variants.{Waiting, Ready}
 use Rattle.listener.specs.declared.listeners.Listener.{Listener}
 use Rattle.listener.specs.Listener.{newListener, fits, heard}
 use Rattle.ledger.specs.declared.ledger.Ledger.{Ledger}
@@ -29,6 +30,7 @@ use Rattle.claims.specs.Numbers.{settling}
 use Rattle.claims.specs.Answers.{handed, refused, said}
 use Rattle.claims.specs.Table.{waiting}
 use Rattle.claims.specs.Lines.{recessive, Piece, lineOf, Line, reply, repliesTo, CameFrom}
+use Rattle.claims.specs.Newer.{newerStart, newerReply}
 use Rattle.claims.specs.Sixteen.{beforeSixteen}
 use Rattle.claims.specs.Histories.{answersTo, reached, Listening, acceptedOf, unrefused, tableAnswers}
 use Rattle.claims.specs.ReadBack.{readAs, EightBytes}
@@ -69,6 +71,9 @@ pub record ListenerPromises : Type 0 where
   pub as-table : (h : List ℕ) → answersTo newListener h ≡ tableAnswers [] waiting h
   -- demand 2, "Frames .. come off it as ISO 11898-1 lays down": an image is answered with its frame at the last but one sample, and else with nothing
   pub image-heard : (h : List ℕ) (r : Received) → Legal r → Listening (reached h .core .place) → answersTo (reached h) (image r) ≡ reply r
+  -- W-201, "a recessive bit in that place answers 'newer format begun' and the listener waits": r0 of a base frame, r1 of an extended one
+  pub newer-begun : (h : List ℕ) (i : Ident) (remote : Bool) (srr : ℕ) → IdentIn i → srr < 2 → Listening (reached h .core .place)
+      → (answersTo (reached h) (newerStart i remote srr) ≡ newerReply (newerStart i remote srr)) × (reached (h ++ newerStart i remote srr) .core .place ≡ Waiting)
   -- demand 2, "a frame we read came from an image that the rules build"; demand 3, "Never is a frame handed out unless its image was sampled bit after
   -- bit, from start of frame to the last but one end-of-frame bit, right behind at least ten recessive bits"
   pub came-from-image : (h : List ℕ) (b : ℕ) (r : Received) → said (heard (reached h) b) ≡ handed r

@@ -1,4 +1,4 @@
--- The starred samples of document 01 ("Samples to try"), all of them, as one table.
+-- The starred samples of document 01 ("Samples to try"), all of them, and those of the requests, as one table.
 use Prim.Native.Nat.{ℕ}
 use mathlib.Core.Path.{_≡_}
 use mathlib.Core.Bool.{true, false}
@@ -8,7 +8,7 @@ use Rattle.wire.specs.Numbers.{idle}
 use Rattle.wire.specs.Image.{image}
 use Rattle.wire.specs.Samples.{Stuffing, Stuffs, stuffings, Imaged, Images, baseZero, Every}
 use Rattle.wire.specs.Samples as wire
-use Rattle.claims.specs.Answers.{Said, nothing, handed, stuffError}
+use Rattle.claims.specs.Answers.{Said, nothing, handed, stuffError, newerFormat}
 use Rattle.claims.specs.Lines.{recessive}
 use Rattle.claims.specs.Histories.{answersTo, reached}
 use Rattle.claims.specs.LedgerSamples.{LedgerSample, HoldsOfLedger, ledger-samples}
@@ -29,6 +29,14 @@ Holds (images s) = Images s
 Holds (hears samples answers) = answersTo (reached (recessive idle)) samples ≡ answers
 Holds (counts s) = HoldsOfLedger s
 
+-- start of frame to FDF, which is recessive: a base frame with identifier 555, an extended one with identifier 15555555
+abbrev newerBase : List ℕ
+newerBase = 0 ∷ 1 ∷ 0 ∷ 1 ∷ 0 ∷ 1 ∷ 0 ∷ 1 ∷ 0 ∷ 1 ∷ 0 ∷ 1 ∷ 0 ∷ 0 ∷ 1 ∷ []
+
+abbrev newerExtended : List ℕ
+newerExtended =
+    0 ∷ 1 ∷ 0 ∷ 1 ∷ 0 ∷ 1 ∷ 0 ∷ 1 ∷ 0 ∷ 1 ∷ 0 ∷ 1 ∷ 1 ∷ 1 ∷ 0 ∷ 1 ∷ 0 ∷ 1 ∷ 0 ∷ 1 ∷ 0 ∷ 1 ∷ 0 ∷ 1 ∷ 0 ∷ 1 ∷ 0 ∷ 1 ∷ 0 ∷ 1 ∷ 0 ∷ 1 ∷ 0 ∷ 1 ∷ []
+
 abbrev pub table : List Sample
 table =
     map stuffs stuffings
@@ -38,6 +46,9 @@ table =
     ∷ hears (take 46 (image (baseZero true))) (replicate 45 nothing ++ (handed (baseZero true) ∷ []))
     -- six dominant samples
     ∷ hears (replicate 6 0) (replicate 5 nothing ++ (stuffError ∷ []))
+    -- W-201: a newer format begun, and its own sample counts towards the eleven
+    ∷ hears (newerBase ++ recessive 10 ++ replicate 6 0) (replicate 14 nothing ++ (newerFormat ∷ []) ++ replicate 15 nothing ++ (stuffError ∷ []))
+    ∷ hears newerExtended (replicate 33 nothing ++ (newerFormat ∷ []))
     ∷ [])
     ++ map counts ledger-samples
 

@@ -1,4 +1,4 @@
--- DOCUMENT 01'S TABLE ("What the listener does at each sample"), over the samples alone: where a listener is, what each sample
+-- DOCUMENT 01'S TABLE ("What the listener does at each sample"; W-201), over the samples alone: where a listener is, what each sample
 -- answers, and where it then is. No registers: in the stuffed part a place holds the samples since start of frame, behind it the fields
 -- that their unstuffed bits are.
 use Prim.Native.Nat.{ℕ, _+_, _-_}
@@ -13,8 +13,8 @@ use Rattle.wire.specs.Stuffing.{none, ranFrom}
 use Rattle.wire.specs.Unstuffing.{unstuffFrom}
 use Rattle.wire.specs.Fields.{raw, header, dataFields}
 use Rattle.wire.specs.Image.{startOfFrame}
-use Rattle.wire.specs.Layout.{Layout, done, part, enter, takes, Got, frames}
-use Rattle.claims.specs.Answers.{Said, nothing, handed, stuffError, formError, crcError, overload}
+use Rattle.wire.specs.Layout.{Layout, done, part, newer, isNewer, enter, takes, Got, frames}
+use Rattle.claims.specs.Answers.{Said, nothing, handed, stuffError, formError, crcError, overload, newerFormat}
 
 pub data Where : Type 0 where
   waiting : Where
@@ -53,17 +53,23 @@ recessives h = recessivesFrom 0 h
 abbrev pub sixth : List ℕ → ℕ → Bool
 sixth s b = eqb (ranFrom none s .len) five && eqb b (ranFrom none s .last)
 
--- what the unstuffed bits behind the start of frame are: the fields of a whole frame to its CRC, or a beginning of them
+-- what the unstuffed bits behind the start of frame are: the fields of a whole frame to its CRC, a beginning of them, or those of
+-- a newer format
 abbrev pub reading : List ℕ → Layout Got
 reading s = takes (enter frames) (drop 1 (unstuffFrom none s)) .rest
 
--- where the stuffed part leads: to its end where the frame is whole and no stuff bit is due
+-- FDF came recessive
+abbrev pub newerBegun : List ℕ → Bool
+newerBegun s = isNewer (reading s)
+
+-- where the stuffed part leads: to its end where the frame is whole and no stuff bit is due, to waiting where a newer format has begun
 abbrev pub ended : Layout Got → List ℕ → Where
-ended (done g) s = crcDelimiter g
+ended (done g) s = cond (eqb (ranFrom none s .len) five) (stuffed s) (crcDelimiter g)
 ended (part w k) s = stuffed s
+ended newer s = waiting
 
 abbrev pub onward : List ℕ → Where
-onward s = cond (eqb (ranFrom none s .len) five) (stuffed s) (ended (reading s) s)
+onward s = ended (reading s) s
 
 -- the CRC over every bit from start of frame to the last data bit, as received
 abbrev pub checks : Got → Bool
@@ -92,7 +98,10 @@ row h waiting b = silent (cond (leb idle (recessives (h ++ (b ∷ [])))) ready w
 -- ready: recessive bits are ignored, a dominant bit is a start of frame
 row h ready b = silent (cond (eqb b 0) (stuffed (0 ∷ [])) ready)
 -- start of frame to the end of stuffing | sixth equal bit in a row | stuff error, waiting
-row h (stuffed s) b = cond (sixth s b) (trouble stuffError) (silent (onward (s ++ (b ∷ []))))
+-- r0 of a base frame, r1 of an extended one | 1 | newer format begun, waiting
+row h (stuffed s) b =
+    cond (sixth s b) (trouble stuffError)
+    (cond (newerBegun (s ++ (b ∷ []))) (trouble newerFormat) (silent (onward (s ++ (b ∷ [])))))
 -- CRC delimiter | 0 | form error, waiting
 row h (crcDelimiter g) b = cond (eqb b 0) (trouble formError) (silent (ackSlot g))
 -- the slot is taken with either value

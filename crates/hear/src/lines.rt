@@ -86,6 +86,7 @@ fn fault(out: &mut [u8], at: usize, x: Fault) -> usize {
         Fault::FormError => text(out, at, b"form error"),
         Fault::CrcError => text(out, at, b"CRC error"),
         Fault::Overload => text(out, at, b"overload"),
+        Fault::NewerFormat => text(out, at, b"newer format begun"),
     }
 }
 

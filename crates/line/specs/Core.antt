@@ -9,7 +9,7 @@ use Rattle.wire.specs.Unstuffing.{sampledAs}
 use Rattle.reader.specs.declared.fields.Field.{Field}
 use Rattle.reader.specs.declared.readers.Reader.{Reader}
 use Rattle.reader.specs.declared.readers.Kept.the-variants.{NoByte}
-use Rattle.reader.specs.Reader.{newReader, isDone, isSummed, tookOf}
+use Rattle.reader.specs.Reader.{newReader, isDone, isFdf, isSummed, tookOf}
 use Rattle.moves.specs.declared.places.Place.{Place}
 use Rattle.moves.specs.declared.places.Place.the-variants.{Waiting, Ready, Stuffed, AckSlot, AckDelimiter, EndOfFrame, Intermission}
 use Rattle.moves.specs.declared.moves.Move.{Move}
@@ -62,7 +62,7 @@ newCore = at Waiting 0 newFrame
 abbrev pub moveAt : Place → InFrame → ℕ → ℕ → Move
 moveAt Waiting f b q = whenWaiting q
 moveAt Ready f b q = whenReady b
-moveAt Stuffed f b q = whenStuffed (sampledAs (f .run) b) (isDone (f .reader .field)) b
+moveAt Stuffed f b q = whenStuffed (sampledAs (f .run) b) (isDone (f .reader .field)) (isFdf (f .reader .field)) b
 moveAt AckSlot f b q = Slot
 moveAt AckDelimiter f b q = whenAckDelimiter b (f .crc) (f .reader .registers .crc)
 moveAt (EndOfFrame k) f b q = whenEndOfFrame k b

@@ -11,7 +11,7 @@ use Rattle.wire.specs.Crc.{crcStep}
 use Rattle.wire.specs.CrcLaws.{crc-step-lt}
 use Rattle.wire.specs.Stuffing.{ran}
 use Rattle.wire.specs.Unstuffing.{sampledAs}
-use Rattle.reader.specs.Reader.{isDone, isSummed}
+use Rattle.reader.specs.Reader.{isDone, isFdf, isSummed}
 use Rattle.reader.specs.Ranges.{readerFits}
 use Rattle.reader.specs.RangesLaws.{and-true, true-and, fits-took}
 use Rattle.moves.specs.declared.places.Place.{Place}
@@ -74,7 +74,7 @@ new-in = frame-in newFrame refl
 move-fits : (p : Place) (f : InFrame) (b q : ℕ) → MoveFits (moveAt p f b q)
 move-fits Waiting f b q = waiting-fits q
 move-fits Ready f b q = ready-fits b
-move-fits Stuffed f b q = stuffed-fits (sampledAs (f .run) b) (isDone (f .reader .field)) b
+move-fits Stuffed f b q = stuffed-fits (sampledAs (f .run) b) (isDone (f .reader .field)) (isFdf (f .reader .field)) b
 move-fits AckSlot f b q = tt
 move-fits AckDelimiter f b q = ack-delimiter-fits b (f .crc) (f .reader .registers .crc)
 move-fits (EndOfFrame k) f b q = end-of-frame-fits k b

@@ -117,7 +117,7 @@ impl Core {
         match p {
             Place::Waiting => when_waiting(quiet),
             Place::Ready => when_ready(b),
-            Place::Stuffed => when_stuffed(u.hear(b), x.is_done(), b),
+            Place::Stuffed => when_stuffed(u.hear(b), x.is_done(), x.is_fdf(), b),
             Place::AckSlot => Move::Slot,
             Place::AckDelimiter => when_ack_delimiter(b, f.crc, g.crc),
             Place::EndOfFrame(k) => when_end_of_frame(k, b),

@@ -6,7 +6,7 @@ use Rattle.wire.specs.declared.runs.Sampled.{Sampled}
 use Rattle.wire.specs.declared.runs.Sampled.the-variants.{FrameBit, StuffBit, SixthEqual}
 use Rattle.wire.specs.Numbers.{idle, endOfFrameBits, handOutBit, intermissionBits}
 use Rattle.moves.specs.declared.places.Place.the-variants.{Waiting, Ready, AckSlot, EndOfFrame, Intermission}
-use Rattle.moves.specs.declared.places.Fault.the-variants.{StuffError, FormError, CrcError, Overload}
+use Rattle.moves.specs.declared.places.Fault.the-variants.{StuffError, FormError, CrcError, Overload, NewerFormat}
 use Rattle.moves.specs.declared.moves.Move.{Move}
 use Rattle.moves.specs.declared.moves.Move.the-variants.{Go, Begin, Take, Skip, HandOut, Fail}
 
@@ -25,14 +25,18 @@ whenReady b = cond (eqb b 0) Begin (Go Ready)
 abbrev pub whenDelimiter : ℕ → Move
 whenDelimiter b = cond (eqb b 0) (Fail FormError) (Go AckSlot)
 
--- a bit of the frame; behind the last CRC bit it is the CRC delimiter
-abbrev pub whenBit : Bool → ℕ → Move
-whenBit done b = cond done (whenDelimiter b) Take
+-- FDF (W-201): a recessive one begins a newer format
+abbrev pub whenFdf : ℕ → Move
+whenFdf b = cond (eqb b 0) Take (Fail NewerFormat)
 
-abbrev pub whenStuffed : Sampled → Bool → ℕ → Move
-whenStuffed FrameBit done b = whenBit done b
-whenStuffed StuffBit done b = Skip
-whenStuffed SixthEqual done b = Fail StuffError
+-- a bit of the frame; behind the last CRC bit it is the CRC delimiter
+abbrev pub whenBit : Bool → Bool → ℕ → Move
+whenBit done fdf b = cond done (whenDelimiter b) (cond fdf (whenFdf b) Take)
+
+abbrev pub whenStuffed : Sampled → Bool → Bool → ℕ → Move
+whenStuffed FrameBit done fdf b = whenBit done fdf b
+whenStuffed StuffBit done fdf b = Skip
+whenStuffed SixthEqual done fdf b = Fail StuffError
 
 abbrev pub whenAckDelimiter : ℕ → ℕ → ℕ → Move
 whenAckDelimiter b sum crc = cond (eqb b 0) (Fail FormError) (cond (eqb sum crc) (Go (EndOfFrame 1)) (Fail CrcError))

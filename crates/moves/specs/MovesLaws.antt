@@ -9,10 +9,10 @@ use Rattle.wire.specs.declared.runs.Sampled.{Sampled}
 use Rattle.wire.specs.declared.runs.Sampled.the-variants.{FrameBit, StuffBit, SixthEqual}
 use Rattle.wire.specs.Numbers.{idle, endOfFrameBits, handOutBit, intermissionBits}
 use Rattle.moves.specs.declared.places.Place.the-variants.{Waiting, Ready, AckSlot, EndOfFrame, Intermission}
-use Rattle.moves.specs.declared.places.Fault.the-variants.{FormError, CrcError, Overload}
+use Rattle.moves.specs.declared.places.Fault.the-variants.{FormError, CrcError, Overload, NewerFormat}
 use Rattle.moves.specs.declared.moves.Move.{Move}
 use Rattle.moves.specs.declared.moves.Move.the-variants.{Go, Begin, Take, Skip, Slot, HandOut, Fail}
-use Rattle.moves.specs.Moves.{quietAfter, whenWaiting, whenReady, whenDelimiter, whenStuffed, whenAckDelimiter, whenEndOfFrame, whenIntermission}
+use Rattle.moves.specs.Moves.{quietAfter, whenWaiting, whenReady, whenDelimiter, whenFdf, whenStuffed, whenAckDelimiter, whenEndOfFrame, whenIntermission}
 use Rattle.moves.specs.Ranges.{placeFits}
 
 pub quiet-lt : (q b : ℕ) → quietAfter q b < idle + 1
@@ -42,10 +42,12 @@ waiting-fits q = either (ltb q idle) (Go Waiting) (Go Ready) refl refl
 pub ready-fits : (b : ℕ) → MoveFits (whenReady b)
 ready-fits b = either (eqb b 0) Begin (Go Ready) tt refl
 
-pub stuffed-fits : (x : Sampled) (done : Bool) (b : ℕ) → MoveFits (whenStuffed x done b)
-stuffed-fits FrameBit done b = either done (whenDelimiter b) Take (either (eqb b 0) (Fail FormError) (Go AckSlot) tt refl) tt
-stuffed-fits StuffBit done b = tt
-stuffed-fits SixthEqual done b = tt
+pub stuffed-fits : (x : Sampled) (done fdf : Bool) (b : ℕ) → MoveFits (whenStuffed x done fdf b)
+stuffed-fits FrameBit done fdf b =
+    either done (whenDelimiter b) (cond fdf (whenFdf b) Take) (either (eqb b 0) (Fail FormError) (Go AckSlot) tt refl)
+    (either fdf (whenFdf b) Take (either (eqb b 0) Take (Fail NewerFormat) tt tt) tt)
+stuffed-fits StuffBit done fdf b = tt
+stuffed-fits SixthEqual done fdf b = tt
 
 pub ack-delimiter-fits : (b sum crc : ℕ) → MoveFits (whenAckDelimiter b sum crc)
 ack-delimiter-fits b sum crc =

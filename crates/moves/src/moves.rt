@@ -3,7 +3,7 @@ use crate::places::Fault;
 use crate::places::Place;
 use wire::Sampled;
 ghost use mathlib.Core.Path.{_≡_};
-ghost use Rattle.moves.specs.Moves.{quietAfter, whenWaiting, whenReady, whenDelimiter, whenBit, whenStuffed, whenAckDelimiter, whenEndOfFrame, whenIntermission};
+ghost use Rattle.moves.specs.Moves.{quietAfter, whenWaiting, whenReady, whenDelimiter, whenFdf, whenBit, whenStuffed, whenAckDelimiter, whenEndOfFrame, whenIntermission};
 
 pub enum Move {
     // nothing but another place
@@ -63,18 +63,35 @@ fn when_delimiter(b: u32) -> Move
     }
 }
 
-// A bit of the frame; behind the last CRC bit it is the CRC delimiter.
-fn when_bit(done: bool, b: u32) -> Move
-    ensures { λ r. ⌜ r ≡ whenBit done b ⌝ }
+// FDF is r0 of a base frame and r1 of an extended one.
+fn when_fdf(b: u32) -> Move
+    ensures { λ r. ⌜ r ≡ whenFdf b ⌝ }
 {
-    if done { when_delimiter(b) } else { Move::Take }
+    if b == 0 {
+        Move::Take
+    } else {
+        Move::Fail(Fault::NewerFormat)
+    }
 }
 
-pub fn when_stuffed(sampled: Sampled, done: bool, b: u32) -> Move
-    ensures { λ r. ⌜ r ≡ whenStuffed sampled done b ⌝ }
+// A bit of the frame; behind the last CRC bit it is the CRC delimiter.
+fn when_bit(done: bool, fdf: bool, b: u32) -> Move
+    ensures { λ r. ⌜ r ≡ whenBit done fdf b ⌝ }
+{
+    if done {
+        when_delimiter(b)
+    } else if fdf {
+        when_fdf(b)
+    } else {
+        Move::Take
+    }
+}
+
+pub fn when_stuffed(sampled: Sampled, done: bool, fdf: bool, b: u32) -> Move
+    ensures { λ r. ⌜ r ≡ whenStuffed sampled done fdf b ⌝ }
 {
     match sampled {
-        Sampled::FrameBit => when_bit(done, b),
+        Sampled::FrameBit => when_bit(done, fdf, b),
         Sampled::StuffBit => Move::Skip,
         Sampled::SixthEqual => Move::Fail(Fault::StuffError),
     }

@@ -20,6 +20,7 @@ pub enum Fault {
     FormError,
     CrcError,
     Overload,
+    NewerFormat,
 }
 
 impl Place {

@@ -7,6 +7,7 @@ use Rattle.reader.proofs.readers.Reader as reader
 pub record AllPinned : Type 0 where
   pub field-width : Pinned 0 field.width.Kinds.ps field.width.Kinds.r field.width.Reads.Learnt
   pub field-is-done : Pinned 0 field.is_done.Kinds.ps field.is_done.Kinds.r field.is_done.Reads.Learnt
+  pub field-is-fdf : Pinned 0 field.is_fdf.Kinds.ps field.is_fdf.Kinds.r field.is_fdf.Reads.Learnt
   pub field-is-summed : Pinned 0 field.is_summed.Kinds.ps field.is_summed.Kinds.r field.is_summed.Reads.Learnt
   pub field-kept : Pinned 0 field.kept.Kinds.ps field.kept.Kinds.r field.kept.Reads.Learnt
   pub field-fits : Pinned 0 field.fits.Kinds.ps field.fits.Kinds.r field.fits.Reads.Learnt

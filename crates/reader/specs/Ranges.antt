@@ -4,7 +4,7 @@ use mathlib.Core.Bool.{Bool, true, _&&_}
 use lib.Dec.{ltb}
 use Rattle.wire.specs.Numbers.{room, baseWidth, lowerWidth, codeWidth, crcWidth}
 use Rattle.reader.specs.declared.fields.Field.{Field}
-use Rattle.reader.specs.declared.fields.Field.the-variants.{Upper, Srr, Ide, Lower, Rtr, R1, R0, Code, Data, Crc, Done}
+use Rattle.reader.specs.declared.fields.Field.the-variants.{Upper, Srr, Ide, Lower, Rtr, Fdf, R0, Code, Data, Crc, Done}
 use Rattle.reader.specs.declared.registers.Registers.{Registers}
 use Rattle.reader.specs.declared.readers.Reader.{Reader}
 
@@ -15,7 +15,6 @@ registersFit g =
     && ltb (g .ide) 2
     && ltb (g .lower) (2 ^ lowerWidth)
     && ltb (g .rtr) 2
-    && ltb (g .r1) 2
     && ltb (g .r0) 2
     && ltb (g .code) (2 ^ codeWidth)
     && ltb (g .crc) (2 ^ crcWidth)
@@ -26,7 +25,7 @@ fieldFits Srr = true
 fieldFits Ide = true
 fieldFits Lower = true
 fieldFits Rtr = true
-fieldFits R1 = true
+fieldFits Fdf = true
 fieldFits R0 = true
 fieldFits Code = true
 fieldFits (Data i) = ltb i room

@@ -8,7 +8,7 @@ use borrow.Author.Tests.{ltb-true, lt-ltb}
 use Rattle.wire.specs.Numbers.{room, baseWidth, lowerWidth, codeWidth, crcWidth}
 use Rattle.wire.specs.FieldsLaws.{carried-le}
 use Rattle.reader.specs.declared.fields.Field.{Field}
-use Rattle.reader.specs.declared.fields.Field.the-variants.{Upper, Srr, Ide, Lower, Rtr, R1, R0, Code, Data, Crc, Done}
+use Rattle.reader.specs.declared.fields.Field.the-variants.{Upper, Srr, Ide, Lower, Rtr, Fdf, R0, Code, Data, Crc, Done}
 use Rattle.reader.specs.declared.registers.Registers.{Registers}
 use Rattle.reader.specs.declared.readers.Reader.{Reader}
 use Rattle.reader.specs.Reader.{widthOf, newReader, remoteOf, bytesToCome, putOf, dataOrCrc, nextOf, begun, shifted, within, turned, tookOf}
@@ -31,15 +31,13 @@ pub record RegistersIn (g : Registers) : Type 0 where
   pub ide : g .ide < 2
   pub lower : g .lower < 2 ^ lowerWidth
   pub rtr : g .rtr < 2
-  pub r1 : g .r1 < 2
   pub r0 : g .r0 < 2
   pub code : g .code < 2 ^ codeWidth
   pub crc : g .crc < 2 ^ crcWidth
 
 pub registers-in : (g : Registers) → registersFit g ≡ true → RegistersIn g
 registers-in g e =
-    let e8 = true-and _ _ e in
-    let e7 = true-and _ _ (e8 .0) in
+    let e7 = true-and _ _ e in
     let e6 = true-and _ _ (e7 .0) in
     let e5 = true-and _ _ (e6 .0) in
     let e4 = true-and _ _ (e5 .0) in
@@ -52,10 +50,9 @@ registers-in g e =
       ide = ltb-true _ _ (e2 .1);
       lower = ltb-true _ _ (e3 .1);
       rtr = ltb-true _ _ (e4 .1);
-      r1 = ltb-true _ _ (e5 .1);
-      r0 = ltb-true _ _ (e6 .1);
-      code = ltb-true _ _ (e7 .1);
-      crc = ltb-true _ _ (e8 .1);
+      r0 = ltb-true _ _ (e5 .1);
+      code = ltb-true _ _ (e6 .1);
+      crc = ltb-true _ _ (e7 .1);
     }
 
 pub in-registers : (g : Registers) → RegistersIn g → registersFit g ≡ true
@@ -67,7 +64,7 @@ put-in g Srr v i = search (arith)
 put-in g Ide v i = search (arith)
 put-in g Lower v i = search (arith)
 put-in g Rtr v i = search (arith)
-put-in g R1 v i = search (arith)
+put-in g Fdf v i = i
 put-in g R0 v i = search (arith)
 put-in g Code v i = search (arith)
 put-in g (Data n) v i = i
@@ -82,7 +79,7 @@ width-lt Srr = lit< tt
 width-lt Ide = lit< tt
 width-lt Lower = lit< tt
 width-lt Rtr = lit< tt
-width-lt R1 = lit< tt
+width-lt Fdf = lit< tt
 width-lt R0 = lit< tt
 width-lt Code = lit< tt
 width-lt (Data i) = lit< tt
@@ -96,24 +93,23 @@ data-fits i n h = go (ltb i n) refl
     go true e = lt-ltb i room (omega (arith, ltb-true i n e))
     go false e = refl
 
+either-fits : (t : Bool) (x y : Field) → fieldFits x ≡ true → fieldFits y ≡ true → fieldFits (cond t x y) ≡ true
+either-fits true x y p q = p
+either-fits false x y p q = q
+
 pub next-fits : (g : Registers) (f : Field) → fieldFits (nextOf g f) ≡ true
 next-fits g Upper = refl
 next-fits g Srr = refl
-next-fits g Ide = go (eqb (g .ide) 0)
-  where
-    go : (t : Bool) → fieldFits (cond t R0 Lower) ≡ true
-    go true = refl
-    go false = refl
+next-fits g Ide = either-fits (eqb (g .ide) 0) Fdf Lower refl refl
 next-fits g Lower = refl
 next-fits g Rtr = refl
-next-fits g R1 = refl
+next-fits g Fdf = either-fits (eqb (g .ide) 0) Code R0 refl refl
 next-fits g R0 = refl
 next-fits g Code = data-fits 0 (bytesToCome g) (carried-le (remoteOf g) (g .code))
-next-fits g (Data i) = go (ltb i room)
-  where
-    go : (t : Bool) → fieldFits (cond t (dataOrCrc (i + 1) (bytesToCome g)) Crc) ≡ true
-    go true = data-fits (i + 1) (bytesToCome g) (carried-le (remoteOf g) (g .code))
-    go false = refl
+next-fits g (Data i) =
+    either-fits (ltb i room) (dataOrCrc (i + 1) (bytesToCome g)) Crc
+    (data-fits (i + 1) (bytesToCome g) (carried-le (remoteOf g) (g .code)))
+    refl
 next-fits g Crc = refl
 next-fits g Done = refl
 

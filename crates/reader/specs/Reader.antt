@@ -6,10 +6,10 @@ use lib.Dec.{eqb, ltb}
 use Rattle.wire.specs.declared.idents.Ident.{Ident}
 use Rattle.wire.specs.declared.idents.Ident.the-variants.{Base, Extended}
 use Rattle.wire.specs.declared.frames.Frame.{Frame}
-use Rattle.wire.specs.Numbers.{room, srrNoted, r1Noted, r0Noted, baseWidth, lowerWidth, codeWidth, byteWidth, crcWidth}
+use Rattle.wire.specs.Numbers.{room, srrNoted, r0Noted, baseWidth, lowerWidth, codeWidth, byteWidth, crcWidth}
 use Rattle.wire.specs.Fields.{joined, carried, trimmed}
 use Rattle.reader.specs.declared.fields.Field.{Field}
-use Rattle.reader.specs.declared.fields.Field.the-variants.{Upper, Srr, Ide, Lower, Rtr, R1, R0, Code, Data, Crc, Done}
+use Rattle.reader.specs.declared.fields.Field.the-variants.{Upper, Srr, Ide, Lower, Rtr, Fdf, R0, Code, Data, Crc, Done}
 use Rattle.reader.specs.declared.registers.Registers.{Registers}
 use Rattle.reader.specs.declared.readers.Reader.{Reader}
 use Rattle.reader.specs.declared.readers.Kept.{Kept}
@@ -24,7 +24,7 @@ widthOf Srr = 1
 widthOf Ide = 1
 widthOf Lower = lowerWidth
 widthOf Rtr = 1
-widthOf R1 = 1
+widthOf Fdf = 1
 widthOf R0 = 1
 widthOf Code = codeWidth
 widthOf (Data i) = byteWidth
@@ -37,12 +37,26 @@ isDone Srr = false
 isDone Ide = false
 isDone Lower = false
 isDone Rtr = false
-isDone R1 = false
+isDone Fdf = false
 isDone R0 = false
 isDone Code = false
 isDone (Data i) = false
 isDone Crc = false
 isDone Done = true
+
+-- a recessive bit begins a newer format (W-201): r0 of a base frame, r1 of an extended one
+abbrev pub isFdf : Field → Bool
+isFdf Upper = false
+isFdf Srr = false
+isFdf Ide = false
+isFdf Lower = false
+isFdf Rtr = false
+isFdf Fdf = true
+isFdf R0 = false
+isFdf Code = false
+isFdf (Data i) = false
+isFdf Crc = false
+isFdf Done = false
 
 -- the CRC is worked out over the bits of every field before it
 abbrev pub isSummed : Field → Bool
@@ -51,7 +65,7 @@ isSummed Srr = true
 isSummed Ide = true
 isSummed Lower = true
 isSummed Rtr = true
-isSummed R1 = true
+isSummed Fdf = true
 isSummed R0 = true
 isSummed Code = true
 isSummed (Data i) = true
@@ -61,7 +75,7 @@ isSummed Done = false
 -- REGISTERS
 
 abbrev pub newRegisters : Registers
-newRegisters = record { upper = 0; srr = 0; ide = 0; lower = 0; rtr = 0; r1 = 0; r0 = 0; code = 0; crc = 0 }
+newRegisters = record { upper = 0; srr = 0; ide = 0; lower = 0; rtr = 0; r0 = 0; code = 0; crc = 0 }
 
 -- the remote mark: the bit before IDE in a base frame
 abbrev pub remoteOf : Registers → Bool
@@ -73,15 +87,12 @@ identOf g =
     (Base (record { 0 = g .upper % 2 ^ baseWidth }))
     (Extended (record { 0 = joined (g .upper % 2 ^ baseWidth) (g .lower % 2 ^ lowerWidth) }))
 
--- THE NOTED BITS: 4 if SRR came dominant, 2 if r1 came recessive, 1 if r0 came recessive; a base frame has no SRR and no r1
+-- THE NOTED BITS: 4 if SRR came dominant, 1 if r0 came recessive; a base frame has neither
 abbrev pub noteOf : ℕ → ℕ → ℕ → ℕ
 noteOf b noted weight = cond (eqb b noted) weight 0
 
 abbrev pub notedOf : Registers → ℕ
-notedOf g =
-    cond (eqb (g .ide) 0)
-    (noteOf (g .r0) 1 r0Noted)
-    (noteOf (g .srr) 0 srrNoted + noteOf (g .r1) 1 r1Noted + noteOf (g .r0) 1 r0Noted)
+notedOf g = cond (eqb (g .ide) 0) 0 (noteOf (g .srr) 0 srrNoted + noteOf (g .r0) 1 r0Noted)
 
 -- how many data bytes follow the length code
 abbrev pub bytesToCome : Registers → ℕ
@@ -98,18 +109,18 @@ frameOf g bytes =
       bytes = trimmed (bytesToCome g) bytes;
     }
 
--- a whole field is kept, so many bits of it as it has; a data byte is not kept here
+-- a whole field is kept, so many bits of it as it has; FDF is dominant, and a data byte is not kept here
 abbrev pub putOf : Registers → Field → ℕ → Registers
-putOf g Upper v = record { upper = v % 2 ^ baseWidth; srr = g .srr; ide = g .ide; lower = g .lower; rtr = g .rtr; r1 = g .r1; r0 = g .r0; code = g .code; crc = g .crc }
-putOf g Srr v = record { upper = g .upper; srr = v % 2; ide = g .ide; lower = g .lower; rtr = g .rtr; r1 = g .r1; r0 = g .r0; code = g .code; crc = g .crc }
-putOf g Ide v = record { upper = g .upper; srr = g .srr; ide = v % 2; lower = g .lower; rtr = g .rtr; r1 = g .r1; r0 = g .r0; code = g .code; crc = g .crc }
-putOf g Lower v = record { upper = g .upper; srr = g .srr; ide = g .ide; lower = v % 2 ^ lowerWidth; rtr = g .rtr; r1 = g .r1; r0 = g .r0; code = g .code; crc = g .crc }
-putOf g Rtr v = record { upper = g .upper; srr = g .srr; ide = g .ide; lower = g .lower; rtr = v % 2; r1 = g .r1; r0 = g .r0; code = g .code; crc = g .crc }
-putOf g R1 v = record { upper = g .upper; srr = g .srr; ide = g .ide; lower = g .lower; rtr = g .rtr; r1 = v % 2; r0 = g .r0; code = g .code; crc = g .crc }
-putOf g R0 v = record { upper = g .upper; srr = g .srr; ide = g .ide; lower = g .lower; rtr = g .rtr; r1 = g .r1; r0 = v % 2; code = g .code; crc = g .crc }
-putOf g Code v = record { upper = g .upper; srr = g .srr; ide = g .ide; lower = g .lower; rtr = g .rtr; r1 = g .r1; r0 = g .r0; code = v % 2 ^ codeWidth; crc = g .crc }
+putOf g Upper v = record { upper = v % 2 ^ baseWidth; srr = g .srr; ide = g .ide; lower = g .lower; rtr = g .rtr; r0 = g .r0; code = g .code; crc = g .crc }
+putOf g Srr v = record { upper = g .upper; srr = v % 2; ide = g .ide; lower = g .lower; rtr = g .rtr; r0 = g .r0; code = g .code; crc = g .crc }
+putOf g Ide v = record { upper = g .upper; srr = g .srr; ide = v % 2; lower = g .lower; rtr = g .rtr; r0 = g .r0; code = g .code; crc = g .crc }
+putOf g Lower v = record { upper = g .upper; srr = g .srr; ide = g .ide; lower = v % 2 ^ lowerWidth; rtr = g .rtr; r0 = g .r0; code = g .code; crc = g .crc }
+putOf g Rtr v = record { upper = g .upper; srr = g .srr; ide = g .ide; lower = g .lower; rtr = v % 2; r0 = g .r0; code = g .code; crc = g .crc }
+putOf g Fdf v = g
+putOf g R0 v = record { upper = g .upper; srr = g .srr; ide = g .ide; lower = g .lower; rtr = g .rtr; r0 = v % 2; code = g .code; crc = g .crc }
+putOf g Code v = record { upper = g .upper; srr = g .srr; ide = g .ide; lower = g .lower; rtr = g .rtr; r0 = g .r0; code = v % 2 ^ codeWidth; crc = g .crc }
 putOf g (Data i) v = g
-putOf g Crc v = record { upper = g .upper; srr = g .srr; ide = g .ide; lower = g .lower; rtr = g .rtr; r1 = g .r1; r0 = g .r0; code = g .code; crc = v % 2 ^ crcWidth }
+putOf g Crc v = record { upper = g .upper; srr = g .srr; ide = g .ide; lower = g .lower; rtr = g .rtr; r0 = g .r0; code = g .code; crc = v % 2 ^ crcWidth }
 putOf g Done v = g
 
 abbrev pub keptOf : Field → ℕ → Kept
@@ -118,7 +129,7 @@ keptOf Srr v = NoByte
 keptOf Ide v = NoByte
 keptOf Lower v = NoByte
 keptOf Rtr v = NoByte
-keptOf R1 v = NoByte
+keptOf Fdf v = NoByte
 keptOf R0 v = NoByte
 keptOf Code v = NoByte
 keptOf (Data i) v = Byte i (v % 2 ^ byteWidth)
@@ -128,7 +139,11 @@ keptOf Done v = NoByte
 -- THE ORDER OF THE FIELDS
 
 abbrev pub afterIde : ℕ → Field
-afterIde ide = cond (eqb ide 0) R0 Lower
+afterIde ide = cond (eqb ide 0) Fdf Lower
+
+-- a base frame has no further reserved bit
+abbrev pub afterFdf : ℕ → Field
+afterFdf ide = cond (eqb ide 0) Code R0
 
 -- the data byte at i, if there are so many, and else the CRC
 abbrev pub dataOrCrc : ℕ → ℕ → Field
@@ -142,8 +157,8 @@ nextOf g Upper = Srr
 nextOf g Srr = Ide
 nextOf g Ide = afterIde (g .ide)
 nextOf g Lower = Rtr
-nextOf g Rtr = R1
-nextOf g R1 = R0
+nextOf g Rtr = Fdf
+nextOf g Fdf = afterFdf (g .ide)
 nextOf g R0 = Code
 nextOf g Code = dataOrCrc 0 (bytesToCome g)
 nextOf g (Data i) = afterData i (bytesToCome g)

@@ -3,16 +3,17 @@ use crate::readers::Kept;
 use wire::frames::ROOM;
 ghost use mathlib.Core.Path.{_≡_};
 ghost use Rattle.reader.specs.Ranges.{fieldFits};
-ghost use Rattle.reader.specs.Reader.{widthOf, isDone, isSummed, keptOf};
+ghost use Rattle.reader.specs.Reader.{widthOf, isDone, isFdf, isSummed, keptOf};
 
-// The fields of a frame behind the start of frame. Srr is the bit before IDE: SRR in an extended frame, RTR in a base frame.
+// The fields of a frame behind the start of frame. Srr is the bit before IDE: SRR in an extended frame, RTR in a base frame. Fdf is
+// r0 of a base frame and r1 of an extended one: whoever follows the line gives only a dominant one to the reader.
 pub enum Field {
     Upper,
     Srr,
     Ide,
     Lower,
     Rtr,
-    R1,
+    Fdf,
     R0,
     Code,
     Data(usize),
@@ -31,7 +32,7 @@ impl Field {
             Field::Ide => 1,
             Field::Lower => 18,
             Field::Rtr => 1,
-            Field::R1 => 1,
+            Field::Fdf => 1,
             Field::R0 => 1,
             Field::Code => 4,
             Field::Data(_) => 8,
@@ -50,12 +51,31 @@ impl Field {
             Field::Ide => false,
             Field::Lower => false,
             Field::Rtr => false,
-            Field::R1 => false,
+            Field::Fdf => false,
             Field::R0 => false,
             Field::Code => false,
             Field::Data(_) => false,
             Field::Crc => false,
             Field::Done => true,
+        }
+    }
+
+    // Would a recessive bit begin a newer format?
+    pub fn is_fdf(self) -> bool
+        ensures { λ r. ⌜ r ≡ isFdf self ⌝ }
+    {
+        match self {
+            Field::Upper => false,
+            Field::Srr => false,
+            Field::Ide => false,
+            Field::Lower => false,
+            Field::Rtr => false,
+            Field::Fdf => true,
+            Field::R0 => false,
+            Field::Code => false,
+            Field::Data(_) => false,
+            Field::Crc => false,
+            Field::Done => false,
         }
     }
 
@@ -69,7 +89,7 @@ impl Field {
             Field::Ide => true,
             Field::Lower => true,
             Field::Rtr => true,
-            Field::R1 => true,
+            Field::Fdf => true,
             Field::R0 => true,
             Field::Code => true,
             Field::Data(_) => true,
@@ -88,7 +108,7 @@ impl Field {
             Field::Ide => Kept::NoByte,
             Field::Lower => Kept::NoByte,
             Field::Rtr => Kept::NoByte,
-            Field::R1 => Kept::NoByte,
+            Field::Fdf => Kept::NoByte,
             Field::R0 => Kept::NoByte,
             Field::Code => Kept::NoByte,
             Field::Data(i) => Kept::Byte(i, (v % 256) as u8),
@@ -107,7 +127,7 @@ impl Field {
             Field::Ide => true,
             Field::Lower => true,
             Field::Rtr => true,
-            Field::R1 => true,
+            Field::Fdf => true,
             Field::R0 => true,
             Field::Code => true,
             Field::Data(i) => i < ROOM,

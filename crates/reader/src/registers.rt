@@ -10,7 +10,7 @@ use wire::frames::carried;
 ghost use mathlib.Core.Path.{_≡_};
 ghost use Prim.Native.Nat.{_≤_};
 ghost use Rattle.reader.specs.Ranges.{registersFit};
-ghost use Rattle.reader.specs.Reader.{newRegisters, remoteOf, identOf, noteOf, notedOf, bytesToCome, frameOf, putOf, afterIde, dataOrCrc, afterData, nextOf};
+ghost use Rattle.reader.specs.Reader.{newRegisters, remoteOf, identOf, noteOf, notedOf, bytesToCome, frameOf, putOf, afterIde, afterFdf, dataOrCrc, afterData, nextOf};
 
 // What each field held, as it came. The data bytes are not kept here: each is handed on as it is whole.
 pub struct Registers {
@@ -19,7 +19,6 @@ pub struct Registers {
     pub ide: u32,
     pub lower: u32,
     pub rtr: u32,
-    pub r1: u32,
     pub r0: u32,
     pub code: u32,
     pub crc: u32,
@@ -35,7 +34,13 @@ fn note(b: u32, noted: u32, weight: u8) -> u8
 fn after_ide(ide: u32) -> Field
     ensures { λ r. ⌜ r ≡ afterIde ide ⌝ }
 {
-    if ide == 0 { Field::R0 } else { Field::Lower }
+    if ide == 0 { Field::Fdf } else { Field::Lower }
+}
+
+fn after_fdf(ide: u32) -> Field
+    ensures { λ r. ⌜ r ≡ afterFdf ide ⌝ }
+{
+    if ide == 0 { Field::Code } else { Field::R0 }
 }
 
 // The data byte at i of n, or the CRC behind the last.
@@ -66,7 +71,6 @@ impl Registers {
             ide: 0,
             lower: 0,
             rtr: 0,
-            r1: 0,
             r0: 0,
             code: 0,
             crc: 0,
@@ -82,7 +86,6 @@ impl Registers {
             & (self.ide < 2)
             & (self.lower < 0x40000)
             & (self.rtr < 2)
-            & (self.r1 < 2)
             & (self.r0 < 2)
             & (self.code < 16)
             & (self.crc < 0x8000)
@@ -108,14 +111,14 @@ impl Registers {
         }
     }
 
-    // The noted bits: a base frame has no SRR and no r1.
+    // The noted bits: a base frame has none.
     pub fn noted(self) -> u8
         ensures { λ r. ⌜ r ≡ notedOf self ⌝ }
     {
         if self.ide == 0 {
-            note(self.r0, 1, 1)
+            0
         } else {
-            note(self.srr, 0, 4) + note(self.r1, 1, 2) + note(self.r0, 1, 1)
+            note(self.srr, 0, 4) + note(self.r0, 1, 1)
         }
     }
 
@@ -143,7 +146,7 @@ impl Registers {
         }
     }
 
-    // A whole field is kept; a data byte is not kept here.
+    // A whole field is kept; FDF is dominant, and a data byte is not kept here.
     pub fn put(mut self, field: Field, v: u32) -> Registers
         ensures { λ r. ⌜ r ≡ putOf self field v ⌝ }
     {
@@ -168,10 +171,7 @@ impl Registers {
                 self.rtr = v % 2;
                 self
             }
-            Field::R1 => {
-                self.r1 = v % 2;
-                self
-            }
+            Field::Fdf => self,
             Field::R0 => {
                 self.r0 = v % 2;
                 self
@@ -198,8 +198,8 @@ impl Registers {
             Field::Srr => Field::Ide,
             Field::Ide => after_ide(self.ide),
             Field::Lower => Field::Rtr,
-            Field::Rtr => Field::R1,
-            Field::R1 => Field::R0,
+            Field::Rtr => Field::Fdf,
+            Field::Fdf => after_fdf(self.ide),
             Field::R0 => Field::Code,
             Field::Code => data_or_crc(0, self.bytes_to_come()),
             Field::Data(i) => after_data(i, self.bytes_to_come()),

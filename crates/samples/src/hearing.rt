@@ -37,6 +37,7 @@ fn fault(answers: Words, x: Fault) -> Words {
         Fault::FormError => answers.say(b"form error"),
         Fault::CrcError => answers.say(b"CRC error"),
         Fault::Overload => answers.say(b"overload"),
+        Fault::NewerFormat => answers.say(b"newer format begun"),
     }
 }
 

@@ -3,7 +3,10 @@ use crate::hearing::Hearing;
 use crate::images::ELEVEN;
 use crate::images::IMAGE_000;
 use crate::images::IMAGE_009;
+use crate::images::IMAGE_BASE_R0;
 use crate::images::IMAGE_CODE_15;
+use crate::images::IMAGE_EXTENDED_R0;
+use crate::images::IMAGE_EXTENDED_R1;
 use crate::images::TEN;
 use crate::tally::Tally;
 use crate::words::Words;
@@ -55,5 +58,25 @@ pub(crate) fn between(tally: Tally) -> Tally {
             b"an image, one recessive bit, an image",
             with_between(b"1"),
             b"base data frame 000, code 0, no bytes, then overload",
+        )
+}
+
+// W-201: r0 of a base frame and r1 of an extended one are FDF; r0 of an extended frame stays free.
+pub(crate) fn newer(tally: Tally) -> Tally {
+    tally
+        .sample(
+            b"read a base frame whose r0 is recessive",
+            after(&ELEVEN, &IMAGE_BASE_R0),
+            b"newer format begun",
+        )
+        .sample(
+            b"read an extended frame whose r1 is recessive",
+            after(&ELEVEN, &IMAGE_EXTENDED_R1),
+            b"newer format begun",
+        )
+        .sample(
+            b"read an extended frame whose r0 is recessive",
+            after(&ELEVEN, &IMAGE_EXTENDED_R0),
+            b"extended data frame 00000123, code 0, no bytes",
         )
 }

@@ -1,4 +1,4 @@
-// Program: document 01's samples that carry no star, run and compared. A line for each says what was tried, what came out, and whether
+// Program: document 01's samples that carry no star and those of the requests, run and compared. A line for each says what was tried, what came out, and whether
 // that is what the document says; the last line counts them.
 mod counting;
 mod frames;
@@ -12,7 +12,7 @@ mod writing;
 
 use tally::Tally;
 
-// In document 01's order ("Samples to try").
+// In document 01's order ("Samples to try"); then those of the requests.
 fn main() {
     let t = writing::identifiers(Tally::new());
     let t = writing::codes(t);
@@ -23,5 +23,6 @@ fn main() {
     let t = counting::groups(t);
     let t = searched::ends_dominant(t);
     let t = searched::ends_recessive(t);
+    let t = listening::newer(t);
     t.print();
 }

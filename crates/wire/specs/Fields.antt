@@ -7,7 +7,7 @@ use lib.Dec.{ltb}
 use Rattle.wire.specs.declared.idents.Ident.{Ident}
 use Rattle.wire.specs.declared.idents.Ident.the-variants.{Base, Extended}
 use Rattle.wire.specs.declared.frames.Frame.{Frame}
-use Rattle.wire.specs.Numbers.{room, srrNoted, r1Noted, r0Noted, baseWidth, lowerWidth, codeWidth, byteWidth}
+use Rattle.wire.specs.Numbers.{room, srrNoted, r0Noted, baseWidth, lowerWidth, codeWidth, byteWidth}
 use Rattle.wire.specs.Bits.{bits}
 use Rattle.wire.specs.Stuffing.{Coding, dynamic, plain, Coded, all, opposite}
 
@@ -33,19 +33,16 @@ abbrev pub coded : List Span → List Coded
 coded [] = []
 coded (s ∷ ss) = all (s .how) (bits (s .width) (s .value)) ++ coded ss
 
--- THE NOTED BITS, a sum: 4 if SRR came dominant, 2 if r1 came recessive, 1 if r0 came recessive
-abbrev pub notedSum : (srr r1 r0 : ℕ) → ℕ
-notedSum srr r1 r0 = opposite srr * srrNoted + r1 * r1Noted + r0 * r0Noted
+-- THE NOTED BITS of an extended frame, a sum: 4 if SRR came dominant, 1 if r0 came recessive (W-201)
+abbrev pub notedSum : (srr r0 : ℕ) → ℕ
+notedSum srr r0 = opposite srr * srrNoted + r0 * r0Noted
 
--- and each of the three by the sum
+-- and each of the two by the sum
 abbrev noting : ℕ → ℕ → ℕ
 noting weight noted = noted / weight % 2
 
 abbrev pub srr : ℕ → ℕ
 srr noted = opposite (noting srrNoted noted)
-
-abbrev pub r1 : ℕ → ℕ
-r1 noted = noting r1Noted noted
 
 abbrev pub r0 : ℕ → ℕ
 r0 noted = noting r0Noted noted
@@ -53,6 +50,10 @@ r0 noted = noting r0Noted noted
 -- RTR is 0 for data, 1 for remote
 abbrev pub rtr : Bool → ℕ
 rtr remote = cond remote 1 0
+
+-- FDF (001 6.6.10.3) is r0 of a base frame and r1 of an extended one: dominant, or a newer format has begun
+abbrev pub fdf : Span
+fdf = field 1 0
 
 -- the upper 11 bits of an extended identifier, and the lower 18
 abbrev pub upper : ℕ → ℕ
@@ -67,14 +68,14 @@ joined upper lower = upper * 2 ^ lowerWidth + lower
 -- behind the start of frame, to the length code
 abbrev pub header : Ident → Bool → ℕ → ℕ → List Span
 header (Base i) remote code noted =
-    field baseWidth (i .0) ∷ field 1 (rtr remote) ∷ field 1 0 ∷ field 1 (r0 noted) ∷ field codeWidth code ∷ []
+    field baseWidth (i .0) ∷ field 1 (rtr remote) ∷ field 1 0 ∷ fdf ∷ field codeWidth code ∷ []
 header (Extended i) remote code noted =
     field baseWidth (upper (i .0))
     ∷ field 1 (srr noted)
     ∷ field 1 1
     ∷ field lowerWidth (lower (i .0))
     ∷ field 1 (rtr remote)
-    ∷ field 1 (r1 noted)
+    ∷ fdf
     ∷ field 1 (r0 noted)
     ∷ field codeWidth code
     ∷ []

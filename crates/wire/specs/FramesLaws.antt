@@ -1,6 +1,6 @@
 -- The layout of frames and the fields of images are one: along any way stand the fields of what was read, which is in its ranges;
 -- and to whatever is in its ranges there is a way.
-use Prim.Native.Nat.{ℕ, zero, suc, _+_, _-_, _*_, _/_, _%_, _^_, _<_, _≤_}
+use Prim.Native.Nat.{ℕ, zero, suc, _^_, _<_}
 use mathlib.Core.Path.{_≡_, refl, sym, ap, _∙_}
 use mathlib.Core.Bool.{Bool, true, false, cond}
 use mathlib.Core.List.{List, [], _∷_, _++_, append-nil, append-assoc}
@@ -10,10 +10,10 @@ use lib.ListN.{length}
 use borrow.Author.Tests.{eqb-true, eqb-false}
 use Rattle.wire.specs.declared.idents.Ident.{Ident}
 use Rattle.wire.specs.declared.idents.Ident.the-variants.{Base, Extended}
-use Rattle.wire.specs.Numbers.{srrNoted, r1Noted, r0Noted, baseWidth, lowerWidth, codeWidth, byteWidth, crcWidth}
-use Rattle.wire.specs.Fields.{Span, field, notedSum, srr, r1, r0, rtr, upper, lower, joined, header, carried, dataFields}
+use Rattle.wire.specs.Numbers.{baseWidth, lowerWidth, codeWidth, byteWidth, crcWidth}
+use Rattle.wire.specs.Fields.{Span, field, fdf, notedSum, srr, r0, rtr, upper, lower, joined, header, carried, dataFields}
 use Rattle.wire.specs.Legal.{IdentIn, NotedIn}
-use Rattle.wire.specs.Layout.{Layout, done, part, Way, end, along, Got, bytesOf, restOf, baseRest, extendedRest, frames}
+use Rattle.wire.specs.Layout.{Layout, done, part, newer, Way, end, along, Got, bytesOf, restOf, fdfThen, baseRest, extendedRest, frames}
 use Rattle.wire.specs.LayoutLaws.{Sized}
 
 -- the fields of what was read, behind the start of frame
@@ -42,13 +42,27 @@ sized-rest : (i : Ident) (remote : Bool) (noted : ℕ) → Sized (restOf i remot
 sized-rest i remote noted =
     (lit< tt, λ (c : ℕ). sized-bytes (carried remote c) (λ (bs : List ℕ). part crcWidth (λ (k : ℕ). done (record { ident = i; remote = remote; code = c; bytes = bs; noted = noted; crc = k }))) (λ (bs : List ℕ). (lit< tt, λ (k : ℕ). tt)))
 
+sized-fdf : (l : Layout Got) → Sized l → Sized (fdfThen l)
+sized-fdf l z = (lit< tt, λ (v : ℕ). go (eqb v 0))
+  where
+    go : (t : Bool) → Sized (cond t l newer)
+    go true = z
+    go false = tt
+
 pub sized-frames : Sized frames
 sized-frames = (lit< tt, λ (u : ℕ). (lit< tt, λ (s : ℕ). (lit< tt, λ (i : ℕ). either u s (eqb i 0))))
   where
     either : (u s : ℕ) (t : Bool) → Sized (cond t (baseRest u s) (extendedRest u s))
-    either u s true = (lit< tt, λ (z : ℕ). sized-rest (Base (record { 0 = u })) (eqb s 1) z)
-    either u s false =
-        (lit< tt, λ (l : ℕ). (lit< tt, λ (x : ℕ). (lit< tt, λ (y : ℕ). (lit< tt, λ (z : ℕ). sized-rest (Extended (record { 0 = joined u l })) (eqb x 1) (notedSum s y z)))))
+    either u s true = sized-fdf (restOf (Base (record { 0 = u })) (eqb s 1) 0) (sized-rest (Base (record { 0 = u })) (eqb s 1) 0)
+    either u s false = (
+      lit< tt,
+      λ (l : ℕ). (
+        lit< tt,
+        λ (x : ℕ).
+            sized-fdf (part 1 (λ (z : ℕ). restOf (Extended (record { 0 = joined u l })) (eqb x 1) (notedSum s z)))
+            (lit< tt, λ (z : ℕ). sized-rest (Extended (record { 0 = joined u l })) (eqb x 1) (notedSum s z)),
+      ),
+    )
 
 -- ALONG A WAY
 
@@ -98,29 +112,41 @@ rtr-is v h = go (eqb v 1) refl
     go true e = sym (eqb-true v 1 e)
     go false e = omega (arith, eqb-false v 1 e)
 
+-- a way leads through FDF only where it is dominant
+tells-fdf : (l : Layout Got) (ss : List Span) → Tells l (ss ++ (fdf ∷ [])) → Tells (fdfThen l) ss
+tells-fdf l ss t y = go (y .0) (eqb (y .0) 0) refl (y .3)
+  where
+    go : (v : ℕ) (d : Bool) → eqb v 0 ≡ d → (z : Way (cond d l newer))
+        → GotIn (end (cond d l newer) z) × (ss ++ (field 1 v ∷ along (cond d l newer) z) ≡ gotFields (end (cond d l newer) z))
+    go v true e z = let n : v ≡ 0 = eqb-true v 0 e in rw n (tells-next 1 0 l ss z (t z))
+    go v false e z = absurd z
+
 tells-base : (id v : ℕ) → id < 2 ^ baseWidth → v < 2 → Tells (baseRest id v) (field baseWidth id ∷ field 1 v ∷ field 1 0 ∷ [])
-tells-base id v hi hv y =
-    let z : r0 (y .0) ≡ y .0 = omega (arith, y .2) in
-    tells-rest (Base (record { 0 = id })) (eqb v 1) (y .0) hi (omega (arith, y .2))
-    (field baseWidth id ∷ field 1 v ∷ field 1 0 ∷ field 1 (y .0) ∷ [])
-    (λ (c : ℕ). rw (rtr-is v hv, z))
-    (y .3)
+tells-base id v hi hv =
+    tells-fdf (restOf (Base (record { 0 = id })) (eqb v 1) 0) (field baseWidth id ∷ field 1 v ∷ field 1 0 ∷ [])
+    (tells-rest (Base (record { 0 = id })) (eqb v 1) 0 hi refl (field baseWidth id ∷ field 1 v ∷ field 1 0 ∷ fdf ∷ []) (λ (c : ℕ). rw (rtr-is v hv)))
 
 -- an extended frame's fields from its identifier and its noted bits
-extended-parts : (u s l x z : ℕ) → s < 2 → l < 2 ^ lowerWidth → x < 2 → z < 2
-    → (upper (joined u l) ≡ u) × (lower (joined u l) ≡ l) × (srr (notedSum s x z) ≡ s) × (r1 (notedSum s x z) ≡ x) × (r0 (notedSum s x z) ≡ z)
-extended-parts u s l x z hs hl hx hz = (omega arith, omega arith, omega arith, omega arith, omega arith)
+extended-parts : (u s l z : ℕ) → s < 2 → l < 2 ^ lowerWidth → z < 2
+    → (upper (joined u l) ≡ u) × (lower (joined u l) ≡ l) × (srr (notedSum s z) ≡ s) × (r0 (notedSum s z) ≡ z)
+extended-parts u s l z hs hl hz = (omega arith, omega arith, omega arith, omega arith)
 
 tells-extended : (u s : ℕ) → u < 2 ^ baseWidth → s < 2 → Tells (extendedRest u s) (field baseWidth u ∷ field 1 s ∷ field 1 1 ∷ [])
-tells-extended u s hu hs y = go (y .0) (y .2) (y .3 .0) (y .3 .2) (y .3 .3 .0) (y .3 .3 .2) (y .3 .3 .3 .0) (y .3 .3 .3 .2) (y .3 .3 .3 .3)
+tells-extended u s hu hs y = go (y .0) (y .2) (y .3 .0) (y .3 .2) (y .3 .3)
   where
-    go : (l : ℕ) → l < 2 ^ lowerWidth → (v : ℕ) → v < 2 → (x : ℕ) → x < 2 → (z : ℕ) → z < 2
-        → Tells (restOf (Extended (record { 0 = joined u l })) (eqb v 1) (notedSum s x z)) (field baseWidth u ∷ field 1 s ∷ field 1 1 ∷ field lowerWidth l ∷ field 1 v ∷ field 1 x ∷ field 1 z ∷ [])
-    go l hl v hv x hx z hz =
-        let p = extended-parts u s l x z hs hl hx hz in
-        tells-rest (Extended (record { 0 = joined u l })) (eqb v 1) (notedSum s x z) (omega arith) (omega arith)
-        (field baseWidth u ∷ field 1 s ∷ field 1 1 ∷ field lowerWidth l ∷ field 1 v ∷ field 1 x ∷ field 1 z ∷ [])
-        (λ (c : ℕ). rw (p .0, p .1, p .2, p .3, p .4, rtr-is v hv))
+    go : (l : ℕ) → l < 2 ^ lowerWidth → (v : ℕ) → v < 2
+        → Tells (fdfThen (part 1 (λ (z : ℕ). restOf (Extended (record { 0 = joined u l })) (eqb v 1) (notedSum s z)))) (field baseWidth u ∷ field 1 s ∷ field 1 1 ∷ field lowerWidth l ∷ field 1 v ∷ [])
+    go l hl v hv =
+        tells-fdf (part 1 (λ (z : ℕ). restOf (Extended (record { 0 = joined u l })) (eqb v 1) (notedSum s z))) (field baseWidth u ∷ field 1 s ∷ field 1 1 ∷ field lowerWidth l ∷ field 1 v ∷ [])
+        (λ y. last (y .0) (y .2) (y .3))
+      where
+        last : (z : ℕ) → z < 2
+            → Tells (restOf (Extended (record { 0 = joined u l })) (eqb v 1) (notedSum s z)) (field baseWidth u ∷ field 1 s ∷ field 1 1 ∷ field lowerWidth l ∷ field 1 v ∷ fdf ∷ field 1 z ∷ [])
+        last z hz =
+            let p = extended-parts u s l z hs hl hz in
+            tells-rest (Extended (record { 0 = joined u l })) (eqb v 1) (notedSum s z) (omega arith) (omega (arith, p .2, p .3))
+            (field baseWidth u ∷ field 1 s ∷ field 1 1 ∷ field lowerWidth l ∷ field 1 v ∷ fdf ∷ field 1 z ∷ [])
+            (λ (c : ℕ). rw (p .0, p .1, p .2, p .3, rtr-is v hv))
 
 pub frames-told : (y : Way frames) → GotIn (end frames y) × (along frames y ≡ gotFields (end frames y))
 frames-told y = go (y .0) (y .2) (y .3 .0) (y .3 .2) (y .3 .3 .0) (y .3 .3 .2) (eqb (y .3 .3 .0) 0) refl (y .3 .3 .3)
@@ -154,17 +180,9 @@ remote-is : (t : Bool) → eqb (rtr t) 1 ≡ t
 remote-is true = refl
 remote-is false = refl
 
-rtr-lt : (t : Bool) → rtr t < 2
+pub rtr-lt : (t : Bool) → rtr t < 2
 rtr-lt true = lit< tt
 rtr-lt false = lit< tt
-
-noted-sum : (n : ℕ) → n ≤ srrNoted + r1Noted + r0Noted → notedSum (srr n) (r1 n) (r0 n) ≡ n
-noted-sum n h =
-    let a : n / 4 % 2 ≡ n / 4 = omega arith in
-    let b : n / 2 ≡ n / 4 * 2 + n / 2 % 2 = omega arith in
-    let c : n ≡ n / 2 * 2 + n % 2 = omega arith in
-    let d : 1 - (1 - n / 4 % 2) ≡ n / 4 % 2 = omega arith in
-    omega arith
 
 pub frames-way : (g : Got) → GotIn g → Ends frames g
 frames-way g h = go (g .ident) refl (h .ident) (h .noted)
@@ -174,18 +192,17 @@ frames-way g h = go (g .ident) refl (h .ident) (h .noted)
 
     go : (i : Ident) → i ≡ g .ident → IdentIn i → NotedIn i (g .noted) → Ends frames g
     go (Base i) e hi hn =
-        let m = rest (Base i) (eqb (rtr (g .remote)) 1) (g .noted) e (remote-is (g .remote)) refl in
-        ((i .0, lit< tt, hi, (rtr (g .remote), lit< tt, rtr-lt (g .remote), (0, lit< tt, lit< tt, (g .noted, lit< tt, omega (arith, hn), m .0)))), m .1)
+        let m = rest (Base i) (eqb (rtr (g .remote)) 1) 0 e (remote-is (g .remote)) (sym hn) in
+        ((i .0, lit< tt, hi, (rtr (g .remote), lit< tt, rtr-lt (g .remote), (0, lit< tt, lit< tt, (0, lit< tt, lit< tt, m .0)))), m .1)
     go (Extended i) e hi hn =
         let n : ℕ = g .noted in
         let whole : joined (upper (i .0)) (lower (i .0)) ≡ i .0 = omega arith in
-        let sum : notedSum (srr n) (r1 n) (r0 n) ≡ n = noted-sum n hn in
-        let m = rest (Extended (record { 0 = joined (upper (i .0)) (lower (i .0)) })) (eqb (rtr (g .remote)) 1) (notedSum (srr n) (r1 n) (r0 n)) (ap (λ (v : ℕ). Extended (record { 0 = v })) whole ∙ e) (remote-is (g .remote)) sum in (
+        let m = rest (Extended (record { 0 = joined (upper (i .0)) (lower (i .0)) })) (eqb (rtr (g .remote)) 1) (notedSum (srr n) (r0 n)) (ap (λ (v : ℕ). Extended (record { 0 = v })) whole ∙ e) (remote-is (g .remote)) hn in (
           (
             upper (i .0),
             lit< tt,
             omega arith,
-            (srr n, lit< tt, omega arith, (1, lit< tt, lit< tt, (lower (i .0), lit< tt, omega arith, (rtr (g .remote), lit< tt, rtr-lt (g .remote), (r1 n, lit< tt, omega arith, (r0 n, lit< tt, omega arith, m .0)))))),
+            (srr n, lit< tt, omega arith, (1, lit< tt, lit< tt, (lower (i .0), lit< tt, omega arith, (rtr (g .remote), lit< tt, rtr-lt (g .remote), (0, lit< tt, lit< tt, (r0 n, lit< tt, omega arith, m .0)))))),
           ),
           m .1,
         )

@@ -11,7 +11,7 @@ use borrow.Author.Tests.{lt-ltb, le-ltb, ltb-true, ltb-false}
 use Rattle.wire.specs.Bits.{bits}
 use Rattle.wire.specs.BitsLaws.{bits-snoc, half-lt}
 use Rattle.wire.specs.Fields.{Span, field, raw}
-use Rattle.wire.specs.Layout.{Layout, done, part, Way, end, along, Walker, wide, enter, took, takes}
+use Rattle.wire.specs.Layout.{Layout, done, part, newer, Way, end, along, Walker, wide, enter, took, takes}
 
 -- READING A WAY
 
@@ -23,6 +23,7 @@ takes-append r (x ∷ xs) ys = takes-append (took r x) xs ys
 abbrev pub Open : {A : Type 0} → Layout A → Type 0
 Open (done a) = ⊥
 Open (part w k) = Unit {0}
+Open newer = ⊥
 
 -- one is, before each of these bits
 abbrev pub Alive : {A : Type 0} → Walker A → List ℕ → Type 0
@@ -37,12 +38,15 @@ alive-append : {A : Type 0} (r : Walker A) (xs ys : List ℕ) → Alive r xs →
 alive-append r [] ys p q = q
 alive-append r (x ∷ xs) ys p q = (p .0, alive-append (took r x) xs ys (p .1) q)
 
-then : {A : Type 0} {r r′ r″ : Walker A} {xs ys : List ℕ} → Reads r xs r′ → Reads r′ ys r″ → Reads r (xs ++ ys) r″
+pub then : {A : Type 0} {r r′ r″ : Walker A} {xs ys : List ℕ} → Reads r xs r′ → Reads r′ ys r″ → Reads r (xs ++ ys) r″
 then {A} {r} {r′} {r″} {xs} {ys} a b =
     record {
       ends = takes-append r xs ys ∙ ap (λ (s : Walker A). takes s ys) (a .ends) ∙ b .ends;
       alive = alive-append r xs ys (a .alive) (subst (λ (s : Walker A). Alive s ys) (sym (a .ends)) (b .alive));
     }
+
+pub nothing-read : {A : Type 0} {r : Walker A} → Reads r [] r
+nothing-read = record { ends = refl; alive = tt }
 
 module _ {A : Type 0} (w : ℕ) (k : ℕ → Layout A) where
   abbrev inside : ℕ → ℕ → Walker A
@@ -59,7 +63,7 @@ module _ {A : Type 0} (w : ℕ) (k : ℕ → Layout A) where
       subst (λ (xs : List ℕ). Reads (inside w 0) xs (inside (w - suc n) v)) (sym (bits-snoc n (v / 2) (v % 2) (omega arith)) ∙ ap (bits (suc n)) d)
       (then (reads-part n (v / 2) (half-lt n h) (omega arith)) one)
 
-reads-field : {A : Type 0} (w : ℕ) (k : ℕ → Layout A) (v : ℕ) → 0 < w → v < 2 ^ w → Reads (enter (part w k)) (bits w v) (enter (k v))
+pub reads-field : {A : Type 0} (w : ℕ) (k : ℕ → Layout A) (v : ℕ) → 0 < w → v < 2 ^ w → Reads (enter (part w k)) (bits w v) (enter (k v))
 reads-field zero k v z h = absurd (omega arith)
 reads-field (suc n) k v z h =
     let e : suc n - n ≤ 1 = omega arith in
@@ -69,8 +73,9 @@ reads-field (suc n) k v z h =
     (then (reads-part (suc n) k n (v / 2) (half-lt n h) (omega arith)) one)
 
 pub reads-way : {A : Type 0} (l : Layout A) (y : Way l) → Reads (enter l) (raw (along l y)) (enter (done (end l y)))
-reads-way (done a) y = record { ends = refl; alive = tt }
+reads-way (done a) y = nothing-read
 reads-way (part w k) y = then (reads-field w k (y .0) (y .1) (y .2)) (reads-way (k (y .0)) (y .3))
+reads-way newer y = absurd y
 
 -- WHERE A READER STANDS
 
@@ -83,6 +88,7 @@ pub data On {A : Type 0} (l : Layout A) : Layout A → List Span → Type 0 wher
 abbrev pub Sized : {A : Type 0} → Layout A → Type 0
 Sized (done a) = Unit {0}
 Sized (part w k) = (0 < w) × ((v : ℕ) → Sized (k v))
+Sized newer = Unit {0}
 
 -- it has taken the bits xs: those of the fields past, and of the field that it is in
 pub record Stood {A : Type 0} (l : Layout A) (r : Walker A) (xs : List ℕ) : Type 0 where

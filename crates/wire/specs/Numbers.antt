@@ -12,9 +12,6 @@ room = 8
 abbrev pub srrNoted : ℕ
 srrNoted = 4
 
-abbrev pub r1Noted : ℕ
-r1Noted = 2
-
 abbrev pub r0Noted : ℕ
 r0Noted = 1
 

@@ -15,7 +15,8 @@ pub struct Frame {
     pub bytes: [u8; ROOM],
 }
 
-// A frame as it came off the wire: unused bytes are 0. `noted` is a sum: 4 if SRR came dominant, 2 if r1 came recessive, 1 if r0 came recessive.
+// A frame as it came off the wire: unused bytes are 0. `noted` is 0 for a base frame, and for an
+// extended one a sum: 4 if SRR came dominant, 1 if r0 came recessive.
 pub struct Received {
     pub frame: Frame,
     pub acknowledged: bool,

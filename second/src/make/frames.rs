@@ -1,6 +1,7 @@
 //! Frames, and lines for `put`: to be written, to be refused, and lines that do not read.
 
 use super::Random;
+use crate::fd;
 use crate::notation;
 use crate::wire::Frame;
 
@@ -31,6 +32,14 @@ pub fn frame(random: &mut Random, codes: usize) -> Frame {
     let count = if remote { 0 } else { code.min(8) };
     let data = (0..count).map(|_| byte(random)).collect();
     Frame { extended, ident: ident(random, extended), remote, code, data }
+}
+
+pub fn fd_frame(random: &mut Random) -> fd::Frame {
+    let extended = random.percent(50);
+    let code = random.below(16) as u32;
+    let data = (0..fd::count(code)).map(|_| byte(random)).collect();
+    let (brs, esi) = (random.percent(50), random.percent(20));
+    fd::Frame { extended, ident: ident(random, extended), brs, esi, code, data }
 }
 
 /// A line whose frame a writer refuses, for one reason or for several.

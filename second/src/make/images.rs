@@ -1,14 +1,14 @@
 //! Images for captures, sound and damaged in every way that document 01's table names.
 
-use super::frames::frame;
+use super::frames::{fd_frame, frame};
 use super::Random;
-use crate::wire;
+use crate::{fd, wire};
 
 /// A plain text of any code, with any noted bits that its kind has, whose stuffed part ends so.
 fn text_that_ends(random: &mut Random, end: &str) -> String {
     loop {
         let frame = frame(random, 16);
-        let noted = random.below(if frame.extended { 8 } else { 2 }) as u32;
+        let noted = if frame.extended { random.pick(&[1, 4, 5]) } else { 0 };
         let text = wire::plain(&frame, if random.percent(60) { 0 } else { noted });
         if wire::image(&text, '1').ends_with(&format!("{end}1111111111")) {
             return text;
@@ -35,6 +35,19 @@ fn flip(text: &mut String, at: usize) {
 /// Acknowledged or not.
 pub fn sound(random: &mut Random) -> String {
     wire::image(&text(random), bit(random))
+}
+
+/// An FD frame, acknowledged or not.
+pub fn newer(random: &mut Random) -> String {
+    fd::image(&fd_frame(random), bit(random))
+}
+
+/// An image but for its FDF, which is recessive, also in the CRC: a frame by the older documents.
+pub fn recessive_fdf(random: &mut Random) -> String {
+    let mut text = text(random);
+    let at = wire::fdf_at(&text).expect("the text is whole");
+    flip(&mut text, at);
+    wire::image(&wire::with_crc(&text[..text.len() - 15]), bit(random))
 }
 
 /// An image whose CRC is wrong, though it is stuffed as it should be.

@@ -25,7 +25,7 @@ fn flag(random: &mut Random) -> String {
 }
 
 fn piece(random: &mut Random) -> String {
-    match random.below(20) {
+    match random.below(24) {
         0..=7 => images::sound(random),
         8 => images::eleven_too_soon(random),
         9 | 10 => images::wrong_crc(random),
@@ -34,6 +34,8 @@ fn piece(random: &mut Random) -> String {
         15 => images::wrong_last_stuff_bit(random),
         16 | 17 => images::disturbed(random),
         18 => noise(random),
+        19 | 20 => images::newer(random),
+        21 | 22 => images::recessive_fdf(random),
         _ => flag(random),
     }
 }

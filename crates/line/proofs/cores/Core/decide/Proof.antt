@@ -24,6 +24,9 @@ hear-requires c κs = search needs
 is-done-requires : tie.Need-is-done-requires
 is-done-requires c κs = search needs
 
+is-fdf-requires : tie.Need-is-fdf-requires
+is-fdf-requires c κs = search needs
+
 when-stuffed-requires : tie.Need-when-stuffed-requires
 when-stuffed-requires c κs = search needs
 
@@ -55,7 +58,7 @@ returns-2 : tie.Need-returns-2
 returns-2 c = rw (c .before .enum-told2 .given .1) (c .when-ready .ensures)
 
 returns-3 : tie.Need-returns-3
-returns-3 c = rw (c .before .before .before .enum-told3 .given .1) (rw (c .before .is-done .ensures, c .before .before .hear .ensures) at (c .when-stuffed .ensures))
+returns-3 c = rw (c .before .before .before .before .enum-told3 .given .1) (rw (c .before .is-fdf .ensures, c .before .before .is-done .ensures, c .before .before .before .hear .ensures) at (c .when-stuffed .ensures))
 
 returns-4 : tie.Need-returns-4
 returns-4 c = rw (c .enum-told4 .given .1)
@@ -80,6 +83,7 @@ decide-spec =
     enum-told-3
     hear-requires
     is-done-requires
+    is-fdf-requires
     when-stuffed-requires
     enum-told-4
     enum-told-5

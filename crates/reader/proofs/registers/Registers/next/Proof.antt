@@ -24,6 +24,9 @@ enum-told-5 c = search needs
 enum-told-6 : tie.Need-enum-told-6
 enum-told-6 c = search needs
 
+after-fdf-requires : tie.Need-after-fdf-requires
+after-fdf-requires c κs = search needs
+
 enum-told-7 : tie.Need-enum-told-7
 enum-told-7 c = search needs
 
@@ -67,7 +70,7 @@ returns-5 : tie.Need-returns-5
 returns-5 c = rw (c .enum-told5 .given .1)
 
 returns-6 : tie.Need-returns-6
-returns-6 c = rw (c .enum-told6 .given .1)
+returns-6 c = rw (c .before .enum-told6 .given .1) (c .after-fdf .ensures)
 
 returns-7 : tie.Need-returns-7
 returns-7 c = rw (c .enum-told7 .given .1)
@@ -95,6 +98,7 @@ next-spec =
     enum-told-4
     enum-told-5
     enum-told-6
+    after-fdf-requires
     enum-told-7
     enum-told-8
     bytes-to-come-requires
