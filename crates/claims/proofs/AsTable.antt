@@ -14,7 +14,7 @@ use Rattle.wire.specs.Stuffing.{none, ran, ranFrom}
 use Rattle.wire.specs.StuffingLaws.{ran-append, unstuff-append}
 use Rattle.wire.specs.Unstuffing.{unstuffFrom}
 use Rattle.wire.specs.Layout.{Layout, done, part, newer, isNewer, Got}
-use Rattle.wire.specs.LayoutLaws.{Open}
+use Rattle.wire.specs.LayoutLaws.{Open, open-part}
 use Rattle.reader.specs.Reader.{isDone, isFdf, tookOf}
 use Rattle.moves.specs.declared.places.Place.{Place}
 use Rattle.moves.specs.declared.places.Place.the-variants.{Waiting, Ready, Stuffed, AckSlot, AckDelimiter, EndOfFrame, Intermission}
@@ -220,12 +220,11 @@ module _ (h : List ℕ) (b q : ℕ) (bit : b < 2) (quiet : q ≡ capped (recessi
 
       -- where the frame is not whole yet, a bit is taken
       live : eqb (ranFrom none s .len) five ≡ false → isDone (f .reader .field) ≡ false
-      live e = go (walker (i .taken) .rest) (i .reader .sim .follows) (subst (λ (l : List ℕ). Open (walker (drop 1 l) .rest)) (i .bits) (open-onward s e stay))
-        where
-          go : (l : Layout Got) → Follows (f .reader .field) (f .reader .registers) bytes l → Open l → isDone (f .reader .field) ≡ false
-          go (done g) k o = absurd o
-          go (part n m) k o = k .0
-          go newer k o = absurd o
+      live e =
+          open-part (λ (l : Layout Got). Follows (f .reader .field) (f .reader .registers) bytes l → isDone (f .reader .field) ≡ false) (walker (i .taken) .rest)
+          (subst (λ (l : List ℕ). Open (walker (drop 1 l) .rest)) (i .bits) (open-onward s e stay))
+          (λ _ _ k. k .0)
+          (i .reader .sim .follows)
 
       more-bits : eqb (ranFrom none s .len) five ≡ false → unstuffFrom none (s ++ (b ∷ [])) ≡ 0 ∷ (i .taken ++ (b ∷ []))
       more-bits e = unstuff-append none s (b ∷ []) ∙ rw e (ap (λ (l : List ℕ). l ++ (b ∷ [])) (i .bits))

@@ -11,7 +11,7 @@ use Rattle.wire.specs.declared.idents.Ident.{Ident}
 use Rattle.wire.specs.declared.frames.Received.{Received}
 use Rattle.wire.specs.BitsLaws.{AllBits, all-bits-append}
 use Rattle.wire.specs.StuffingLaws.{stuff-bits}
-use Rattle.wire.specs.Fields.{raw}
+use Rattle.wire.specs.Fields.{raw, beforeFdf}
 use Rattle.wire.specs.FieldsLaws.{raw-bits}
 use Rattle.wire.specs.ImageLaws.{begun, image-bits}
 use Rattle.wire.specs.Image.{image}
@@ -25,7 +25,7 @@ use Rattle.claims.specs.Answers.{Said, handed, refused, said}
 use Rattle.claims.specs.Table.{Where, waiting, ready, stuffed, crcDelimiter, ackSlot, ackDelimiter, endOfFrame, intermission, whereFrom, saysFrom}
 use Rattle.claims.specs.Numbers.{settling}
 use Rattle.claims.specs.Lines.{recessive, Piece, lineOf, Line, reply, repliesTo, CameFrom}
-use Rattle.claims.specs.Newer.{beforeFdf, newerStart, newerReply}
+use Rattle.claims.specs.Newer.{newerStart, newerReply}
 use Rattle.claims.specs.Histories.{Listening, answersTo, reached, acceptedOf, tableAnswers}
 use Rattle.claims.proofs.Cases.{either}
 use Rattle.claims.proofs.AsTable.{At, waits, readies, stuffs, delimits, slots, acks, ends, rests}

@@ -15,8 +15,8 @@ use Rattle.wire.specs.StuffingLaws.{unstuff-append, unbroken-append, stuff-unst
 use Rattle.wire.specs.Unstuffing.{unstuffFrom, Unbroken}
 use Rattle.wire.specs.Fields.{raw}
 use Rattle.wire.specs.ImageLaws.{begun}
-use Rattle.wire.specs.Layout.{Layout, done, part, newer, Walker, enter, took, Got, frames}
-use Rattle.wire.specs.LayoutLaws.{Open, Stood, stood-new, stood-took, takes-append}
+use Rattle.wire.specs.Layout.{Layout, done, part, newer, Walker, enter, Got, frames}
+use Rattle.wire.specs.LayoutLaws.{Open, Stood, stood-new, stood-open, takes-append}
 use Rattle.wire.specs.FramesLaws.{gotFields, GotIn, sized-frames}
 use Rattle.claims.specs.Table.{Where, waiting, ready, stuffed, crcDelimiter, ackSlot, ackDelimiter, endOfFrame, intermission, Row, recessivesFrom, recessives, sixth, reading, newerBegun, ended, onward, checks, row}
 use Rattle.claims.specs.Numbers.{quiet}
@@ -77,13 +77,7 @@ since-start h a k =
 stood-more : (xs : List ℕ) (b : ℕ) → b < 2 → Stood frames (walker xs) xs → Open (walker xs .rest)
     → Stood frames (walker (xs ++ (b ∷ []))) (xs ++ (b ∷ []))
 stood-more xs b h s o =
-    subst (λ (w : Walker Got). Stood frames w (xs ++ (b ∷ []))) (sym (takes-append (enter frames) xs (b ∷ []))) (go (walker xs .rest) (walker xs .left) (walker xs .value) o s)
-  where
-    go : (l : Layout Got) (left v : ℕ) → Open l → Stood frames (record { rest = l; left = left; value = v }) xs
-        → Stood frames (took (record { rest = l; left = left; value = v }) b) (xs ++ (b ∷ []))
-    go (done a) left v o s = absurd o
-    go (part n k) left v o s = stood-took frames n k left v b xs s h
-    go newer left v o s = absurd o
+    subst (λ (w : Walker Got). Stood frames w (xs ++ (b ∷ []))) (sym (takes-append (enter frames) xs (b ∷ []))) (stood-open frames (walker xs) b xs o s h)
 
 -- samples in the stuffed part: bits, none the sixth equal one, the first a start of frame
 pub record Coded (s : List ℕ) : Type 0 where

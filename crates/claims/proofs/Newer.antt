@@ -13,7 +13,7 @@ use Rattle.wire.specs.Numbers.{baseWidth, lowerWidth}
 use Rattle.wire.specs.Stuffing.{none, ranFrom, stuffFrom}
 use Rattle.wire.specs.StuffingLaws.{stuff-append, unstuff-stuff, stuff-cons}
 use Rattle.wire.specs.Unstuffing.{unstuffFrom}
-use Rattle.wire.specs.Fields.{raw, notedSum, rtr, upper, lower, joined}
+use Rattle.wire.specs.Fields.{raw, notedSum, rtr, upper, lower, joined, beforeFdf}
 use Rattle.wire.specs.Legal.{IdentIn}
 use Rattle.wire.specs.Layout.{Layout, part, isNewer, Walker, enter, took, Got, restOf, fdfThen, frames}
 use Rattle.wire.specs.LayoutLaws.{Open, Reads, nothing-read, then, reads-field, takes-append}
@@ -21,7 +21,7 @@ use Rattle.wire.specs.FramesLaws.{rtr-lt}
 use Rattle.wire.specs.ImageLaws.{begun}
 use Rattle.claims.specs.Answers.{Said, nothing, newerFormat}
 use Rattle.claims.specs.Table.{Where, waiting, stuffed, Row, reading, newerBegun, onward, sixth, row, whereFrom, saysFrom}
-use Rattle.claims.specs.Newer.{beforeFdf, newerStart, newerReply}
+use Rattle.claims.specs.Newer.{newerStart, newerReply}
 use Rattle.claims.proofs.Stuffing.{walker, onward-open}
 use Rattle.claims.proofs.Trace.{where-append, says-append, silence, Silent, hush}
 use Rattle.claims.proofs.Complete.{sent, led, led-sent, sent-unstuffed, hears-bits, Idle, start}

@@ -7,7 +7,7 @@ use native.Mathlib.Omega.{arith}
 use lib.ListN.{length, length-set}
 use Rattle.wire.specs.Numbers.{room}
 use Rattle.wire.specs.Layout.{Layout, done, part, newer, Walker, wide, enter, took, Got, frames}
-use Rattle.wire.specs.LayoutLaws.{Open, Sized, Stood, stood-new, stood-took, takes-append}
+use Rattle.wire.specs.LayoutLaws.{Open, open-part, Sized, Stood, stood-new, stood-open, takes-append}
 use Rattle.wire.specs.FramesLaws.{sized-frames}
 use Rattle.reader.specs.declared.readers.Reader.{Reader}
 use Rattle.reader.specs.declared.readers.Kept.{Kept}
@@ -19,7 +19,7 @@ use Rattle.listener.specs.Listener.{keptIn}
 use Rattle.claims.proofs.Follows.{isTaken, Follows, follows}
 use Rattle.claims.proofs.Stuffing.{walker}
 use Rattle.claims.proofs.Parts.{partOf}
-use Rattle.claims.proofs.Simulated.{Sim, wide-is, newer-part, sim-part}
+use Rattle.claims.proofs.Simulated.{Sim, wide-is, newer-took, sim-took}
 use Rattle.claims.proofs.Summed.{Summed, summed-took}
 
 -- A FRAME THAT HAS TAKEN BITS
@@ -43,11 +43,6 @@ kept-size : (bytes : List ℕ) (k : Kept) → length bytes ≡ room → length (
 kept-size bytes NoByte e = e
 kept-size bytes (Byte i v) e = length-set bytes i v ∙ e
 
-open-wide : (l : Layout Got) → Open l → Sized l → 0 < wide l
-open-wide (done a) o z = absurd o
-open-wide (part n k) o z = z .0
-open-wide newer o z = absurd o
-
 -- a reader that is not done has a field to read
 open-of : (r : Reader) (bytes : List ℕ) (w : Walker Got) → Sim r bytes w → isDone (r .field) ≡ false → Open (w .rest)
 open-of r bytes w s d = go (w .rest) (s .follows)
@@ -63,21 +58,7 @@ pub begins-newer : (f : InFrame) (bytes xs : List ℕ) (b : ℕ) → Taken f byt
 begins-newer f bytes xs b t d h q =
     let w : Walker Got = walker xs in
     ap (λ (z : Walker Got). z .rest) (takes-append (enter frames) xs (b ∷ []))
-    ∙ go (w .rest) (w .left) (w .value) (open-of (f .reader) bytes w (t .sim) d) (t .sim) (t .stood)
-  where
-    go : (l : Layout Got) (left v : ℕ) → Open l → Sim (f .reader) bytes (record { rest = l; left = left; value = v })
-        → Stood frames (record { rest = l; left = left; value = v }) xs → took (record { rest = l; left = left; value = v }) b .rest ≡ newer
-    go (done a) left v o s k = absurd o
-    go (part n m) left v o s k = newer-part (f .reader) bytes n m left v b xs s k h q
-    go newer left v o s k = absurd o
-
-took-both : (r : Reader) (bytes xs : List ℕ) (b : ℕ) (l : Layout Got) (left v : ℕ) → Open l
-    → Sim r bytes (record { rest = l; left = left; value = v }) → Stood frames (record { rest = l; left = left; value = v }) xs → b < 2
-    → isTaken (r .field) b ≡ true
-    → Sim (tookOf r b .reader) (keptIn bytes (tookOf r b .kept)) (took (record { rest = l; left = left; value = v }) b) × Stood frames (took (record { rest = l; left = left; value = v }) b) (xs ++ (b ∷ []))
-took-both r bytes xs b (done a) left v o s t h q = absurd o
-took-both r bytes xs b (part n k) left v o s t h q = (sim-part r bytes n k left v b xs s t h q, stood-took frames n k left v b xs t h)
-took-both r bytes xs b newer left v o s t h q = absurd o
+    ∙ newer-took (f .reader) bytes w b xs (open-of (f .reader) bytes w (t .sim) d) (t .sim) (t .stood) h q
 
 pub taken-took : (f : InFrame) (bytes xs : List ℕ) (b : ℕ) → Taken f bytes xs → isDone (f .reader .field) ≡ false → b < 2
     → isTaken (f .reader .field) b ≡ true → Taken (taken f b) (keptIn bytes (tookOf (f .reader) b .kept)) (xs ++ (b ∷ []))
@@ -85,14 +66,13 @@ taken-took f bytes xs b t d h q =
     let r : Reader = f .reader in
     let w : Walker Got = walker xs in
     let o : Open (w .rest) = open-of r bytes w (t .sim) d in
-    let m = took-both r bytes xs b (w .rest) (w .left) (w .value) o (t .sim) (t .stood) h q in
     let e : took w b ≡ walker (xs ++ (b ∷ [])) = sym (takes-append (enter frames) xs (b ∷ [])) in
     let wide-eq : widthOf (r .field) ≡ wide (w .rest) = wide-is (r .field) (r .registers) bytes (w .rest) (t .sim .follows) in
-    let some : 0 < r .left = omega (arith, t .sim .left, t .stood .some (open-wide (w .rest) o (t .stood .sized))) in
+    let some : 0 < r .left = omega (arith, t .sim .left, t .stood .some (open-part (λ (l : Layout Got). Sized l → 0 < wide l) (w .rest) o (λ _ _ z. z .0) (t .stood .sized))) in
     let most : r .left ≤ widthOf (r .field) = omega (arith, t .sim .left, t .stood .most) in
     record {
       size = kept-size bytes (tookOf r b .kept) (t .size);
-      stood = subst (λ (z : Walker Got). Stood frames z (xs ++ (b ∷ []))) e (m .1);
-      sim = subst (λ (z : Walker Got). Sim (tookOf r b .reader) (keptIn bytes (tookOf r b .kept)) z) e (m .0);
+      stood = subst (λ (z : Walker Got). Stood frames z (xs ++ (b ∷ []))) e (stood-open frames w b xs o (t .stood) h);
+      sim = subst (λ (z : Walker Got). Sim (tookOf r b .reader) (keptIn bytes (tookOf r b .kept)) z) e (sim-took r bytes w b xs o (t .sim) (t .stood) h q);
       summed = summed-took (f .crc) b (r .left) (r .value) (r .registers) xs some (r .field) (partOf (r .field)) most d (t .summed);
     }

@@ -9,7 +9,7 @@ use lib.Arith.{digits-lt}
 use lib.Dec.{eqb, ltb, lit<}
 use borrow.Author.Tests.{ltb-false, le-ltb}
 use Rattle.wire.specs.Layout.{Layout, done, part, newer, isNewer, Walker, wide, took, Got, frames}
-use Rattle.wire.specs.LayoutLaws.{Stood}
+use Rattle.wire.specs.LayoutLaws.{Open, open-part, Stood}
 use Rattle.reader.specs.declared.fields.Field.{Field}
 use Rattle.reader.specs.declared.fields.Field.the-variants.{Upper, Srr, Ide, Lower, Rtr, Fdf, R0, Code, Data, Crc, Done}
 use Rattle.reader.specs.declared.registers.Registers.{Registers}
@@ -106,15 +106,14 @@ module _ (r : Reader) (bytes : List ℕ) (n : ℕ) (k : ℕ → Layout Got) (lef
         same true e = ap (λ (x : ℕ). eqb x 0) (one-bit e .1)
         same false e = refl
 
-    -- a bit that is not taken begins a newer format
-    pub newer-part : isTaken (r .field) b ≡ false → took at b .rest ≡ newer
+    newer-part : isTaken (r .field) b ≡ false → took at b .rest ≡ newer
     newer-part q = go (isFdf (r .field)) refl
       where
         go : (t : Bool) → isFdf (r .field) ≡ t → took at b .rest ≡ newer
         go true e = rw (one-bit e .0) (behind false q (one-bit e .0))
         go false e = absurd (false≢true (sym q ∙ rw e))
 
-    pub sim-part : isTaken (r .field) b ≡ true → Sim (tookOf r b .reader) (keptIn bytes (tookOf r b .kept)) (took at b)
+    sim-part : isTaken (r .field) b ≡ true → Sim (tookOf r b .reader) (keptIn bytes (tookOf r b .kept)) (took at b)
     sim-part q = go (ltb 1 left) refl
       where
         small : v < 2 ^ 17
@@ -135,3 +134,21 @@ module _ (r : Reader) (bytes : List ℕ) (n : ℕ) (k : ℕ → Layout Got) (lef
             let f : Next = behind true q e in
             rw (e′, e, shift)
             (record { follows = f; left = wide-is (nextOf registers (r .field)) registers (keptIn bytes (keptOf (r .field) whole)) (k whole) f; value = refl })
+
+module _ (r : Reader) (bytes : List ℕ) (w : Walker Got) (b : ℕ) (xs : List ℕ) (o : Open (w .rest)) (s : Sim r bytes w) (t : Stood frames w xs) (h : b < 2) where
+  abbrev resting : Layout Got → Walker Got
+  resting l = record { rest = l; left = w .left; value = w .value }
+
+  -- a bit that is not taken begins a newer format
+  pub newer-took : isTaken (r .field) b ≡ false → took w b .rest ≡ newer
+  newer-took q =
+      open-part (λ (l : Layout Got). Sim r bytes (resting l) → Stood frames (resting l) xs → took (resting l) b .rest ≡ newer) (w .rest) o
+      (λ (n : ℕ) (k : ℕ → Layout Got) (x : Sim r bytes (resting (part n k))) (y : Stood frames (resting (part n k)) xs). newer-part r bytes n k (w .left) (w .value) b xs x y h q)
+      s t
+
+  -- one that is taken is taken by both
+  pub sim-took : isTaken (r .field) b ≡ true → Sim (tookOf r b .reader) (keptIn bytes (tookOf r b .kept)) (took w b)
+  sim-took q =
+      open-part (λ (l : Layout Got). Sim r bytes (resting l) → Stood frames (resting l) xs → Sim (tookOf r b .reader) (keptIn bytes (tookOf r b .kept)) (took (resting l) b)) (w .rest) o
+      (λ (n : ℕ) (k : ℕ → Layout Got) (x : Sim r bytes (resting (part n k))) (y : Stood frames (resting (part n k)) xs). sim-part r bytes n k (w .left) (w .value) b xs x y h q)
+      s t

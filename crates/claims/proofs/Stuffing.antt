@@ -9,7 +9,7 @@ use Rattle.wire.specs.Numbers.{five}
 use Rattle.wire.specs.Stuffing.{none, ranFrom}
 use Rattle.wire.specs.Fields.{raw}
 use Rattle.wire.specs.Layout.{Layout, done, part, newer, isNewer, Walker, enter, takes, Got, frames}
-use Rattle.wire.specs.LayoutLaws.{Open, Stood, stood-end}
+use Rattle.wire.specs.LayoutLaws.{Open, open-part, Stood, stood-end}
 use Rattle.wire.specs.FramesLaws.{gotFields, GotIn, frames-told}
 use Rattle.claims.specs.Table.{stuffed, crcDelimiter, reading, newerBegun, ended, onward}
 
@@ -17,12 +17,7 @@ abbrev pub walker : List ℕ → Walker Got
 walker xs = takes (enter frames) xs
 
 pub onward-open : (s : List ℕ) → Open (reading s) → onward s ≡ stuffed s
-onward-open s o = go (reading s) o
-  where
-    go : (l : Layout Got) → Open l → ended l s ≡ stuffed s
-    go (done g) o = absurd o
-    go (part w k) o = refl
-    go newer o = absurd o
+onward-open s o = open-part (λ (l : Layout Got). ended l s ≡ stuffed s) (reading s) o (λ _ _. refl)
 
 -- and while a stuff bit is due
 pub onward-due : (s : List ℕ) → eqb (ranFrom none s .len) five ≡ true → newerBegun s ≡ false → onward s ≡ stuffed s
@@ -43,9 +38,7 @@ open-onward s e stay = go (reading s) stay
 
 -- where a field is to be read no newer format has begun
 pub open-old : (l : Layout Got) → Open l → isNewer l ≡ false
-open-old (done g) o = absurd o
-open-old (part w k) o = refl
-open-old newer o = absurd o
+open-old l o = open-part (λ (x : Layout Got). isNewer x ≡ false) l o (λ _ _. refl)
 
 pub whole-bits : (xs : List ℕ) (g : Got) → Stood frames (walker xs) xs → walker xs .rest ≡ done g → (xs ≡ raw (gotFields g)) × GotIn g
 whole-bits xs g s e =

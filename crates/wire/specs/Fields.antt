@@ -65,20 +65,25 @@ lower i = i % 2 ^ lowerWidth
 abbrev pub joined : (upper lower : ℕ) → ℕ
 joined upper lower = upper * 2 ^ lowerWidth + lower
 
--- behind the start of frame, to the length code
-abbrev pub header : Ident → Bool → ℕ → ℕ → List Span
-header (Base i) remote code noted =
-    field baseWidth (i .0) ∷ field 1 (rtr remote) ∷ field 1 0 ∷ fdf ∷ field codeWidth code ∷ []
-header (Extended i) remote code noted =
+-- behind the start of frame, to the bit before FDF; a base frame has no SRR
+abbrev pub beforeFdf : Ident → (remote : Bool) → (srr : ℕ) → List Span
+beforeFdf (Base i) remote srr = field baseWidth (i .0) ∷ field 1 (rtr remote) ∷ field 1 0 ∷ []
+beforeFdf (Extended i) remote srr =
     field baseWidth (upper (i .0))
-    ∷ field 1 (srr noted)
+    ∷ field 1 srr
     ∷ field 1 1
     ∷ field lowerWidth (lower (i .0))
     ∷ field 1 (rtr remote)
-    ∷ fdf
-    ∷ field 1 (r0 noted)
-    ∷ field codeWidth code
     ∷ []
+
+-- behind FDF, to the length code
+abbrev behindFdf : Ident → (code noted : ℕ) → List Span
+behindFdf (Base i) code noted = field codeWidth code ∷ []
+behindFdf (Extended i) code noted = field 1 (r0 noted) ∷ field codeWidth code ∷ []
+
+-- behind the start of frame, to the length code
+abbrev pub header : Ident → Bool → ℕ → ℕ → List Span
+header i remote code noted = beforeFdf i remote (srr noted) ++ (fdf ∷ behindFdf i code noted)
 
 -- a data frame carries as many bytes as the length code says, 8 for codes 9 to 15; a remote frame carries none
 abbrev pub carried : Bool → ℕ → ℕ

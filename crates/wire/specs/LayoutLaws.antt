@@ -25,6 +25,11 @@ Open (done a) = ⊥
 Open (part w k) = Unit {0}
 Open newer = ⊥
 
+pub open-part : {A : Type 0} (P : Layout A → Type 0) (l : Layout A) → Open l → ((w : ℕ) (k : ℕ → Layout A) → P (part w k)) → P l
+open-part P (done a) o f = absurd o
+open-part P (part w k) o f = f w k
+open-part P newer o f = absurd o
+
 -- one is, before each of these bits
 abbrev pub Alive : {A : Type 0} → Walker A → List ℕ → Type 0
 Alive r [] = Unit {0}
@@ -129,7 +134,7 @@ module _ {A : Type 0} (l : Layout A) where
   stood-new z = stood-enter l [] [] new z refl
 
   -- a bit taken is appended
-  pub stood-took : (w : ℕ) (k : ℕ → Layout A) (left v b : ℕ) (xs : List ℕ) → Stood l (inside w k left v) xs → b < 2
+  stood-took : (w : ℕ) (k : ℕ → Layout A) (left v b : ℕ) (xs : List ℕ) → Stood l (inside w k left v) xs → b < 2
       → Stood l (took (inside w k left v) b) (xs ++ (b ∷ []))
   stood-took w k left v b xs s h = go (ltb 1 left) refl
     where
@@ -165,6 +170,12 @@ module _ {A : Type 0} (l : Layout A) where
           (next w k (s .past) (v * 2 + b) (s .on) (s .sized .0) (less w m))
           (s .sized .1 (v * 2 + b))
           (more w m ∙ sym (raw-snoc (s .past) f))
+
+  pub stood-open : (r : Walker A) (b : ℕ) (xs : List ℕ) → Open (r .rest) → Stood l r xs → b < 2 → Stood l (took r b) (xs ++ (b ∷ []))
+  stood-open r b xs o s h =
+      open-part (λ (t : Layout A). Stood l (record { rest = t; left = r .left; value = r .value }) xs → Stood l (took (record { rest = t; left = r .left; value = r .value }) b) (xs ++ (b ∷ []))) (r .rest) o
+      (λ (w : ℕ) (k : ℕ → Layout A) (t : Stood l (inside w k (r .left) (r .value)) xs). stood-took w k (r .left) (r .value) b xs t h)
+      s
 
   -- a way to where the fields lead
   on-way : (t : Layout A) (ss : List Span) → On l t ss → (z : Way t) → (y : Way l) × (end l y ≡ end t z) × (along l y ≡ ss ++ along t z)
