@@ -1,20 +1,20 @@
 -- In every history T has passed 255 since the last recovery, or has not: the history is split anew at each event.
 use Prim.Native.Nat.{ℕ, _+_, _≤_, _<_}
 use native.Mathlib.Omega.{arith}
-use native.Mathlib.Nat.{add-assoc}
 use mathlib.Core.Path.{_≡_, refl, sym}
 use mathlib.Core.Logic.{_⊎_, inl, inr, ⊎-elim}
-use mathlib.Core.Bool.{Bool, true, false, cond, false≢true}
+use mathlib.Core.Bool.{Bool, true, false, cond}
 use mathlib.Core.List.{List, [], _∷_, _++_, append-nil, append-assoc}
 use lib.ListN.{length, take, length-append}
 use lib.Seq.{take-append-le, take-all, take-nil}
 use Rattle.counts.specs.Numbers.{offAbove}
 use Rattle.ledger.specs.declared.event.Event.{Event}
-use Rattle.ledger.specs.declared.event.Event.the-variants.{ErrorSeen, DominantAfterFlag, FlagErrorAsTransmitter, FlagErrorAsReceiver, ErrorFlagSent, AcknowledgeError, StuffBitOverwritten, SentWell, ReceivedWell, ElevenRecessive}
+use Rattle.ledger.specs.declared.event.Event.the-variants.{ElevenRecessive}
 use Rattle.ledger.specs.Numbers.{recoveryGroups}
 use Rattle.ledger.specs.Rules.{isGroup}
 use Rattle.ledger.specs.Cases.{lt-or-le}
-use Rattle.claims.specs.LedgerHistory.{T-of, group, groups, Calm, AsNew, new, recovery, NotPassed, Passed}
+use Rattle.claims.specs.LedgerHistory.{T-of, group, groups, sinceAsked, Calm, AsNew, new, recovery, NotPassed, Passed}
+use Rattle.claims.proofs.LedgerAsked.{only-eleven, since-more}
 
 -- one event more, by T
 
@@ -32,25 +32,9 @@ calm-nil n k = rw (take-nil n) (omega arith)
 
 -- one event more, by the groups
 
-groups-more : (h : List Event) (e : Event) → groups (h ++ (e ∷ [])) ≡ groups h + group e
-groups-more [] e = omega arith
-groups-more (d ∷ h) e = rw (groups-more h e) (sym (add-assoc (group d) (groups h) (group e)))
-
 last-group : (b : Bool) (g : ℕ) → g < recoveryGroups → recoveryGroups ≤ g + cond b 1 0 → (b ≡ true) × (g + 1 ≡ recoveryGroups)
 last-group true g few over = (refl, omega arith)
 last-group false g few over = absurd (omega arith)
-
-only-eleven : (e : Event) → isGroup e ≡ true → e ≡ ElevenRecessive
-only-eleven ErrorSeen h = absurd (false≢true h)
-only-eleven DominantAfterFlag h = absurd (false≢true h)
-only-eleven FlagErrorAsTransmitter h = absurd (false≢true h)
-only-eleven FlagErrorAsReceiver h = absurd (false≢true h)
-only-eleven ErrorFlagSent h = absurd (false≢true h)
-only-eleven AcknowledgeError h = absurd (false≢true h)
-only-eleven StuffBitOverwritten h = absurd (false≢true h)
-only-eleven SentWell h = absurd (false≢true h)
-only-eleven ReceivedWell h = absurd (false≢true h)
-only-eleven ElevenRecessive h = refl
 
 -- the split
 
@@ -81,7 +65,7 @@ module _ (h : List Event) (e : Event) (p : Passed h) where
   whole-more = rw (p .whole) (simp append-assoc)
 
   -- it waits on,
-  pub still-passed : groups (p .later) + group e < recoveryGroups → Passed (h ++ (e ∷ []))
+  pub still-passed : groups (sinceAsked (p .later)) + group e < recoveryGroups → Passed (h ++ (e ∷ []))
   still-passed few = record {
     before = p .before;
     since = p .since;
@@ -89,20 +73,20 @@ module _ (h : List Event) (e : Event) (p : Passed h) where
     whole = whole-more;
     as-new = p .as-new;
     passes = p .passes;
-    waits = rw (groups-more (p .later) e) few;
+    waits = omega (arith, since-more (p .later) e);
   }
 
   -- or it has recovered
-  pub recovered : e ≡ ElevenRecessive → groups (p .later) + 1 ≡ recoveryGroups → AsNew (h ++ (e ∷ []))
+  pub recovered : e ≡ ElevenRecessive → groups (sinceAsked (p .later)) + 1 ≡ recoveryGroups → AsNew (h ++ (e ∷ []))
   recovered is full = rw (whole-more, is) (recovery (p .before) (p .since) (p .later) (p .as-new) (p .passes) full)
 
   passed-more : Split (h ++ (e ∷ []))
   passed-more =
       ⊎-elim
       (λ few. inr (still-passed few))
-      (λ over. let (is, full) = last-group (isGroup e) (groups (p .later)) (p .waits) over in
+      (λ over. let (is, full) = last-group (isGroup e) (groups (sinceAsked (p .later))) (p .waits) over in
       inl (start (recovered (only-eleven e is) full)))
-      (lt-or-le (groups (p .later) + group e) recoveryGroups)
+      (lt-or-le (groups (sinceAsked (p .later)) + group e) recoveryGroups)
 
 split-on : (h k : List Event) → Split h → Split (h ++ k)
 split-on h [] s = rw (append-nil h) s

@@ -22,6 +22,7 @@ pub mod ReadBack
 pub mod Seek
 pub mod HeardBack
 pub mod ReadBackPinned
+pub mod LedgerAsked
 pub mod LedgerRun
 pub mod LedgerSplit
 pub mod LedgerKept

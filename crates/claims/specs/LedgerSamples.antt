@@ -1,6 +1,7 @@
 -- The starred ledger samples of 01, "Samples to try", as rows: an event at a ledger with T and R, and T, R and the state after it.
 use Prim.Native.Nat.{ℕ}
 use mathlib.Core.Path.{_≡_}
+use mathlib.Core.Bool.{false}
 use mathlib.Core.List.{List, [], _∷_}
 use Rattle.ledger.specs.declared.state.State.{State}
 use Rattle.ledger.specs.declared.state.State.the-variants.{Active, Passive, BusOff}
@@ -36,5 +37,5 @@ ledger-samples =
 -- the rules say what the row says
 abbrev pub HoldsOfLedger : LedgerSample → Type 0
 HoldsOfLedger s =
-    (next (s .event) (ledger (s .T) (s .R) 0) ≡ ledger (s .T-after) (s .R-after) 0) ×
-    (stateOf (ledger (s .T-after) (s .R-after) 0) ≡ s .state-after)
+    (next (s .event) (ledger (s .T) (s .R) 0 false) ≡ ledger (s .T-after) (s .R-after) 0 false) ×
+    (stateOf (ledger (s .T-after) (s .R-after) 0 false) ≡ s .state-after)

@@ -20,7 +20,7 @@ use Rattle.listener.specs.declared.listeners.Listener.{Listener}
 use Rattle.listener.specs.Listener.{newListener, fits, heard}
 use Rattle.ledger.specs.declared.ledger.Ledger.{Ledger}
 use Rattle.ledger.specs.declared.event.Event.{Event}
-use Rattle.ledger.specs.declared.event.Event.the-variants.{ErrorFlagSent, ElevenRecessive}
+use Rattle.ledger.specs.declared.event.Event.the-variants.{ErrorFlagSent, ElevenRecessive, Ask}
 use Rattle.ledger.specs.declared.state.State.the-variants.{BusOff}
 use Rattle.ledger.specs.Rules.{ledger, new, stateOf}
 use Rattle.ledger.specs.Answer.{inRange, accepted, after}
@@ -34,7 +34,7 @@ use Rattle.claims.specs.Newer.{newerStart, newerReply}
 use Rattle.claims.specs.Sixteen.{beforeSixteen}
 use Rattle.claims.specs.Histories.{answersTo, reached, Listening, acceptedOf, unrefused, tableAnswers}
 use Rattle.claims.specs.ReadBack.{readAs, EightBytes}
-use Rattle.claims.specs.LedgerHistory.{T-of, R-of, groups, NotPassed, Passed}
+use Rattle.claims.specs.LedgerHistory.{T-of, R-of, groups, asked, sinceAsked, NotPassed, Passed}
 use Rattle.claims.specs.Samples.{Samples}
 
 -- THE WRITER: `outcome w c′ ≡ answer f c start` is the contract of `write`, where c is the capture at entry and c′ at exit
@@ -94,9 +94,9 @@ pub record LedgerPromise (h : List Event) (s : Standing) : Type 0 where
   -- 01, "When the handset says no": no record reached from a new one is refused
   pub not-refused : s .refusal ≡ 0
   -- demand 2, "The fault counters follow the rules for any history": T and R are those worked out from the events since the last recovery,
-  pub counted : (n : NotPassed h) → s .ledger ≡ ledger (T-of (n .since)) (R-of (n .since)) 0
-  -- and stand still once T has passed 255, while the recessive groups are counted
-  pub stopped : (p : Passed h) → s .ledger ≡ ledger (T-of (p .since)) (R-of (p .since)) (groups (p .later))
+  pub counted : (n : NotPassed h) → s .ledger ≡ ledger (T-of (n .since)) (R-of (n .since)) 0 false
+  -- and stand still once T has passed 255, while the recessive groups since the asking are counted
+  pub stopped : (p : Passed h) → s .ledger ≡ ledger (T-of (p .since)) (R-of (p .since)) (groups (sinceAsked (p .later))) (asked (p .later))
   -- demand 2, "bus-off exactly when the transmit count has passed 255 since the last recovery"
   pub bus-off : (s .state ≡ BusOff) ↔ Passed h
   -- the state is the one that 01 gives for the counts
@@ -120,10 +120,19 @@ pub record LedgerPromises : Type 0 where
   pub off-happens : Passed (replicate 32 ErrorFlagSent)
   -- calls chain: the call for one event more, on the ledger handed back, answers for the longer history
   pub chained : (h : List Event) (e : Event) → after e (standing h .ledger) ≡ afterAll (h ++ (e ∷ [])) new
-  -- group 127 leaves the station off,
-  pub group-127 : (h : List Event) (p : Passed h) → groups (p .later) ≡ 126 → standing (h ++ (ElevenRecessive ∷ [])) .state ≡ BusOff
-  -- 128 brings it back, with T, R and the groups 0
-  pub group-128 : (h : List Event) (p : Passed h) → groups (p .later) ≡ 127 → afterAll (h ++ (ElevenRecessive ∷ [])) new ≡ accepted new
+  -- group 127 since the asking leaves the station off,
+  pub group-127 : (h : List Event) (p : Passed h) → groups (sinceAsked (p .later)) ≡ 126 → standing (h ++ (ElevenRecessive ∷ [])) .state ≡ BusOff
+  -- 128 brings it back, with T, R and the groups 0; W-210, "the recovery uses up the request"
+  pub group-128 : (h : List Event) (p : Passed h) → groups (sinceAsked (p .later)) ≡ 127 → afterAll (h ++ (ElevenRecessive ∷ [])) new ≡ accepted new
+  -- W-210, "Off means off until somebody looks": while nobody asks nothing changes, whatever happens
+  pub off-until-asked : (h k : List Event) (p : Passed h) → asked (p .later) ≡ false → asked k ≡ false → standing (h ++ k) ≡ standing h
+  -- "groups seen before don't count": there are none at the asking
+  pub none-before : (h : List Event) (p : Passed h) → asked (p .later) ≡ false
+      → standing (h ++ (Ask ∷ [])) .ledger ≡ ledger (T-of (p .since)) (R-of (p .since)) 0 true
+  -- "asking twice is the same as once"
+  pub asked-again : (h : List Event) (p : Passed h) → asked (p .later) ≡ true → standing (h ++ (Ask ∷ [])) ≡ standing h
+  -- "asking when not off changes nothing"
+  pub asked-when-on : (h : List Event) → NotPassed h → standing (h ++ (Ask ∷ [])) ≡ standing h
 
 -- ALL OF THEM
 

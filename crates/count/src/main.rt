@@ -1,5 +1,6 @@
-// Keeps the ledger of a station that was new over the event digits on standard input, and prints it after each: `T R groups STATE`,
-// with STATE `active`, `passive` or `off`. Space, tab, CR and LF are skipped; any other character is answered `not an event`.
+// Keeps the ledger of a station that was new over the event digits on standard input (`0` to `9`, and `a` for a recovery asked for), and
+// prints it after each: `T R groups STATE`, with STATE `active`, `passive` or `off`. Space, tab, CR and LF are skipped; any other character
+// is answered `not an event`.
 use ledger::Ledger;
 use ledger::State;
 use libc::STDIN_FILENO;
@@ -49,6 +50,7 @@ fn take_one(l: Ledger, c: u8) -> Ledger {
     match c {
         b' ' | b'\t' | b'\r' | b'\n' => l,
         b'0'..=b'9' => take_event(l, c - b'0'),
+        b'a' => take_event(l, 10),
         _ => {
             io::write_all(STDOUT_FILENO, b"not an event\n");
             l

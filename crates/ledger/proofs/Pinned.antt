@@ -22,6 +22,7 @@ pub record AllPinned : Type 0 where
   pub sent-well : PinnedEvent call.sent_well.Reads.Learnt
   pub received-well : PinnedEvent call.received_well.Reads.Learnt
   pub eleven-recessive : PinnedEvent call.eleven_recessive.Reads.Learnt
+  pub ask : PinnedEvent call.ask.Reads.Learnt
 
 pub pinned : AllPinned
 pinned = search one

@@ -1,5 +1,5 @@
 -- What a call of the ledger answers: 01, "When the handset says no", number 7.
-use mathlib.Core.Bool.{Bool, cond, _&&_, _||_}
+use mathlib.Core.Bool.{Bool, cond, not, _&&_, _||_}
 use lib.Dec.{leb, eqb}
 use Rattle.counts.specs.Numbers.{receiveHeld, mostTransmit}
 use Rattle.ledger.specs.declared.ledger.Ledger.{Ledger}
@@ -8,13 +8,15 @@ use Rattle.ledger.specs.declared.event.Event.{Event}
 use Rattle.ledger.specs.Numbers.{mostGroups}
 use Rattle.ledger.specs.Rules.{isOff, next}
 
--- the ranges: transmit count 0 to 263, receive count 0 to 255, recovery groups 0 to 127, and 0 unless bus-off
+-- the ranges: transmit count 0 to 263, receive count 0 to 255, recovery groups 0 to 127; asked only when bus-off, and groups above 0 only
+-- when asked (W-210)
 unfoldable pub inRange : Ledger → Bool
 inRange l =
     leb (l .transmit .0) mostTransmit
     && leb (l .receive .0) receiveHeld
     && leb (l .groups) mostGroups
-    && (isOff l || eqb (l .groups) 0)
+    && (isOff l || not (l .asked))
+    && (l .asked || eqb (l .groups) 0)
 
 -- not refused, with the next ledger
 abbrev pub accepted : Ledger → Ledgered

@@ -1,25 +1,40 @@
 -- Laws of the ranges: the test as facts on numbers, and that no event leads out of them.
-use Prim.Native.Nat.{_+_, _≤_, _<_}
+use Prim.Native.Nat.{ℕ, _+_, _≤_, _<_}
 use native.Mathlib.Omega.{arith}
 use mathlib.Core.Path.{_≡_, refl}
 use mathlib.Core.Logic.{⊎-elim}
-use mathlib.Core.Bool.{Bool, true, false, _&&_, _||_, false≢true}
+use mathlib.Core.Bool.{Bool, true, false, cond, not, _&&_, _||_, true≢false, false≢true}
 use lib.Dec.{leb, eqb}
 use borrow.Author.Tests.{lt-ltb, le-ltb, le-leb, eq-eqb, leb-true, eqb-true}
 use Rattle.counts.specs.Numbers.{offAbove, receiveHeld, mostTransmit}
+use Rattle.counts.specs.Counts.{off}
 use Rattle.ledger.specs.declared.ledger.Ledger.{Ledger}
 use Rattle.ledger.specs.declared.event.Event.{Event}
 use Rattle.ledger.specs.Numbers.{recoveryGroups, mostGroups}
 use Rattle.ledger.specs.Cases.{lt-or-le, cond-either}
-use Rattle.ledger.specs.Rules.{isOff, isGroup, waiting, grouped, next, new}
+use Rattle.ledger.specs.Rules.{ledger, new, isOff, isGroup, isAsk, oneMore, waiting, counting, next}
 use Rattle.ledger.specs.RulesLaws.{next-on, next-off, change-le}
 use Rattle.ledger.specs.Answer.{inRange}
 
-each : (a b c d : Bool) → (a && b && c && d) ≡ true → (a ≡ true) × (b ≡ true) × (c ≡ true) × (d ≡ true)
-each true true true d h = (refl, refl, refl, h)
-each true true false d h = absurd (false≢true h)
-each true false c d h = absurd (false≢true h)
-each false b c d h = absurd (false≢true h)
+each : (a b c d e : Bool) → (a && b && c && d && e) ≡ true → (a ≡ true) × (b ≡ true) × (c ≡ true) × (d ≡ true) × (e ≡ true)
+each true true true true e h = (refl, refl, refl, refl, h)
+each true true true false e h = absurd (false≢true h)
+each true true false d e h = absurd (false≢true h)
+each true false c d e h = absurd (false≢true h)
+each false b c d e h = absurd (false≢true h)
+
+-- the two tests on the request, as facts
+
+off-or-unasked : (t : ℕ) (a : Bool) → (t ≤ offAbove → a ≡ false) → (off t || not a) ≡ true
+off-or-unasked t a h = ⊎-elim (λ o. rw (lt-ltb offAbove t o)) (λ o. rw (le-ltb offAbove t o, h o)) (lt-or-le offAbove t)
+
+asked-or-none : (a : Bool) (g : ℕ) → (a ≡ false → g ≡ 0) → (a || eqb g 0) ≡ true
+asked-or-none true g h = refl
+asked-or-none false g h = eq-eqb g 0 (h refl)
+
+not-true : (a : Bool) → not a ≡ true → a ≡ false
+not-true true h = absurd (false≢true h)
+not-true false h = refl
 
 -- the ranges as facts
 
@@ -27,45 +42,93 @@ pub record Ranged (l : Ledger) : Type 0 where
   pub transmit-le : l .transmit .0 ≤ mostTransmit
   pub receive-le : l .receive .0 ≤ receiveHeld
   pub groups-le : l .groups ≤ mostGroups
-  pub none-on : l .transmit .0 ≤ offAbove → l .groups ≡ 0
+  pub unasked-on : l .transmit .0 ≤ offAbove → l .asked ≡ false
+  pub none-unasked : l .asked ≡ false → l .groups ≡ 0
 
 pub in-range : (l : Ledger) → Ranged l → inRange l ≡ true
 unfolding inRange
 in-range l h =
-    ⊎-elim
-    (λ o. simp (le-leb _ _ (h .transmit-le), le-leb _ _ (h .receive-le), le-leb _ _ (h .groups-le), lt-ltb offAbove (l .transmit .0) o))
-    (λ o. simp (le-leb _ _ (h .transmit-le), le-leb _ _ (h .receive-le), le-leb _ _ (h .groups-le), le-ltb offAbove (l .transmit .0) o, eq-eqb _ _ (h .none-on o)))
-    (lt-or-le offAbove (l .transmit .0))
+    rw (
+      le-leb _ _ (h .transmit-le),
+      le-leb _ _ (h .receive-le),
+      le-leb _ _ (h .groups-le),
+      off-or-unasked (l .transmit .0) (l .asked) (h .unasked-on),
+      asked-or-none (l .asked) (l .groups) (h .none-unasked),
+    )
 
 pub ranged : (l : Ledger) → inRange l ≡ true → Ranged l
 unfolding inRange
 ranged l h =
-    let (t, r, g, o) = each (leb (l .transmit .0) mostTransmit) (leb (l .receive .0) receiveHeld) (leb (l .groups) mostGroups) (isOff l || eqb (l .groups) 0) h in
+    let (t, r, g, o, a) =
+    each
+    (leb (l .transmit .0) mostTransmit)
+    (leb (l .receive .0) receiveHeld)
+    (leb (l .groups) mostGroups)
+    (isOff l || not (l .asked))
+    (l .asked || eqb (l .groups) 0)
+    h in
     record {
       transmit-le = leb-true _ _ t;
       receive-le = leb-true _ _ r;
       groups-le = leb-true _ _ g;
-      none-on = λ p. eqb-true _ _ (rw (le-ltb offAbove (l .transmit .0) p) at o);
+      unasked-on = λ p. not-true (l .asked) (rw (le-ltb offAbove (l .transmit .0) p) at o);
+      none-unasked = λ p. eqb-true _ _ (rw p at a);
     }
 
 -- no event leads out of them
 
 new-ranged : Ranged new
-new-ranged = omega arith
+new-ranged = record {
+  transmit-le = omega arith;
+  receive-le = omega arith;
+  groups-le = omega arith;
+  unasked-on = λ _. refl;
+  none-unasked = λ _. refl;
+}
 
-grouped-ranged : (l : Ledger) → offAbove < l .transmit .0 → Ranged l → Ranged (grouped l)
-grouped-ranged l o h =
-    ⊎-elim
-    (λ g. simp (lt-ltb (l .groups + 1) recoveryGroups g) (omega arith))
-    (λ g. simp (le-ltb (l .groups + 1) recoveryGroups g) new-ranged)
-    (lt-or-le (l .groups + 1) recoveryGroups)
+module _ (l : Ledger) (o : offAbove < l .transmit .0) (h : Ranged l) where
+  -- where a recovery was asked for, any number of groups will do
+  asked-ranged : (g : ℕ) → g ≤ mostGroups → Ranged (ledger (l .transmit .0) (l .receive .0) g true)
+  asked-ranged g few = record {
+    transmit-le = h .transmit-le;
+    receive-le = h .receive-le;
+    groups-le = few;
+    unasked-on = λ on. absurd (omega arith);
+    none-unasked = λ u. absurd (true≢false u);
+  }
+
+  one-more-ranged : l .asked ≡ true → Ranged (oneMore l)
+  one-more-ranged a =
+      ⊎-elim
+      (λ g. rw (lt-ltb (l .groups + 1) recoveryGroups g, a) (asked-ranged (l .groups + 1) (omega arith)))
+      (λ g. rw (le-ltb (l .groups + 1) recoveryGroups g) new-ranged)
+      (lt-or-le (l .groups + 1) recoveryGroups)
+
+  grouped-ranged : (a : Bool) → l .asked ≡ a → Ranged (cond a (oneMore l) l)
+  grouped-ranged true a = one-more-ranged a
+  grouped-ranged false a = h
+
+  waiting-ranged : (e : Event) → Ranged (waiting e l)
+  unfolding waiting
+  waiting-ranged e =
+      cond-either Ranged (isGroup e) (grouped-ranged (l .asked) refl) (cond-either Ranged (isAsk e) (asked-ranged (l .groups) (h .groups-le)) h)
+
+counting-ranged : (e : Event) (l : Ledger) → l .transmit .0 ≤ offAbove → Ranged l → Ranged (counting e l)
+counting-ranged e l o h =
+    let (t, r) = change-le e (l .transmit .0) (l .receive .0) o (h .receive-le) in
+    record {
+      transmit-le = t;
+      receive-le = r;
+      groups-le = h .groups-le;
+      unasked-on = λ _. h .unasked-on o;
+      none-unasked = h .none-unasked;
+    }
 
 next-ranged : (e : Event) (l : Ledger) → Ranged l → Ranged (next e l)
-unfolding waiting
 next-ranged e l h =
     ⊎-elim
-    (λ o. rw (next-off e l o) (cond-either Ranged (isGroup e) (grouped-ranged l o h) h))
-    (λ o. rw (next-on e l o) (omega (arith, change-le e (l .transmit .0) (l .receive .0) o (h .receive-le), h .none-on o)))
+    (λ o. rw (next-off e l o) (waiting-ranged l o h e))
+    (λ o. rw (next-on e l o) (counting-ranged e l o h))
     (lt-or-le offAbove (l .transmit .0))
 
 pub new-in-range : inRange new ≡ true

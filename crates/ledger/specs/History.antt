@@ -6,7 +6,7 @@ use lib.ListN.{take, drop}
 use Rattle.ledger.specs.declared.ledger.Ledger.{Ledger}
 use Rattle.ledger.specs.declared.ledger.Ledgered.{Ledgered}
 use Rattle.ledger.specs.declared.event.Event.{Event}
-use Rattle.ledger.specs.declared.event.Event.the-variants.{ErrorSeen, DominantAfterFlag, FlagErrorAsTransmitter, FlagErrorAsReceiver, ErrorFlagSent, AcknowledgeError, StuffBitOverwritten, SentWell, ReceivedWell, ElevenRecessive}
+use Rattle.ledger.specs.declared.event.Event.the-variants.{ErrorSeen, DominantAfterFlag, FlagErrorAsTransmitter, FlagErrorAsReceiver, ErrorFlagSent, AcknowledgeError, StuffBitOverwritten, SentWell, ReceivedWell, ElevenRecessive, Ask}
 use Rattle.ledger.specs.Rules.{next}
 use Rattle.ledger.specs.Answer.{inRange, accepted, refused}
 
@@ -19,13 +19,13 @@ run (e ∷ h) l = run h (next e l)
 unfoldable pub afterAll : List Event → Ledger → Ledgered
 afterAll h l = cond (inRange l) (accepted (run h l)) (refused l)
 
--- the events in 01's order: the first is number 0, the last number 9
+-- the events in 01's order, from number 0 to 9; asking is number 10 (W-210)
 abbrev pub inOrder : List Event
 inOrder =
     ErrorSeen ∷ DominantAfterFlag ∷ FlagErrorAsTransmitter ∷ FlagErrorAsReceiver ∷ ErrorFlagSent ∷
-    AcknowledgeError ∷ StuffBitOverwritten ∷ SentWell ∷ ReceivedWell ∷ ElevenRecessive ∷ []
+    AcknowledgeError ∷ StuffBitOverwritten ∷ SentWell ∷ ReceivedWell ∷ ElevenRecessive ∷ Ask ∷ []
 
--- the event that a number stands for; a number above 9 is no event
+-- the event that a number stands for; a number above 10 is no event
 unfoldable pub eventOf : ℕ → List Event
 eventOf n = take 1 (drop n inOrder)
 

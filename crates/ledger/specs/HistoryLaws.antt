@@ -26,7 +26,7 @@ run-in-range (e ∷ h) l p = run-in-range h (next e l) (next-in-range e l p)
 
 -- histories lent as numbers
 
-pub eventOf-above : (n : ℕ) → 9 < n → eventOf n ≡ []
+pub eventOf-above : (n : ℕ) → 10 < n → eventOf n ≡ []
 unfolding eventOf
 eventOf-above n h = rw (drop-of-length-le inOrder {i = n} (omega arith))
 

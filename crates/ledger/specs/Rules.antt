@@ -1,5 +1,5 @@
--- The fault ledger's rules: 01, "The fault ledger" (001 section 8.1.4; 002 section 8). What an event makes of a ledger, and the
--- state that a ledger stands for.
+-- The fault ledger's rules: 01, "The fault ledger" (001 section 8.1.4; 002 section 8), and W-210 for recoveries. What an event makes of a
+-- ledger, and the state that a ledger stands for.
 use Prim.Native.Nat.{ℕ, _+_, _-_}
 use mathlib.Core.Bool.{Bool, true, false, cond}
 use lib.Dec.{ltb}
@@ -9,7 +9,7 @@ use Rattle.ledger.specs.declared.ledger.Ledger.{Ledger}
 use Rattle.ledger.specs.declared.state.State.{State}
 use Rattle.ledger.specs.declared.state.State.the-variants.{Active, Passive, BusOff}
 use Rattle.ledger.specs.declared.event.Event.{Event}
-use Rattle.ledger.specs.declared.event.Event.the-variants.{ErrorSeen, DominantAfterFlag, FlagErrorAsTransmitter, FlagErrorAsReceiver, ErrorFlagSent, AcknowledgeError, StuffBitOverwritten, SentWell, ReceivedWell, ElevenRecessive}
+use Rattle.ledger.specs.declared.event.Event.the-variants.{ErrorSeen, DominantAfterFlag, FlagErrorAsTransmitter, FlagErrorAsReceiver, ErrorFlagSent, AcknowledgeError, StuffBitOverwritten, SentWell, ReceivedWell, ElevenRecessive, Ask}
 use Rattle.ledger.specs.Numbers.{recoveryGroups}
 
 -- T, the transmit count, and R, the receive count
@@ -42,14 +42,16 @@ change SentWell t r = counts (t - 1) r
 change ReceivedWell t r = counts t (received r)
 -- eleven recessive bits seen: counts only when bus-off
 change ElevenRecessive t r = counts t r
+-- recovery asked for (W-210): changes nothing when not bus-off
+change Ask t r = counts t r
 
--- the ledger that holds T, R and the groups
-abbrev pub ledger : ℕ → ℕ → ℕ → Ledger
-ledger t r g = record { transmit = record { 0 = t }; receive = record { 0 = r }; groups = g }
+-- the ledger that holds T, R, the groups, and whether a recovery was asked for
+abbrev pub ledger : ℕ → ℕ → ℕ → Bool → Ledger
+ledger t r g a = record { transmit = record { 0 = t }; receive = record { 0 = r }; groups = g; asked = a }
 
 -- both counts start at 0
 abbrev pub new : Ledger
-new = ledger 0 0 0
+new = ledger 0 0 0 false
 
 -- bus-off: T above 255
 abbrev pub isOff : Ledger → Bool
@@ -67,20 +69,43 @@ isGroup StuffBitOverwritten = false
 isGroup SentWell = false
 isGroup ReceivedWell = false
 isGroup ElevenRecessive = true
+isGroup Ask = false
 
--- a recessive group when bus-off: the 128th sets T, R and the groups to 0
+-- recovery asked for
+abbrev pub isAsk : Event → Bool
+isAsk ErrorSeen = false
+isAsk DominantAfterFlag = false
+isAsk FlagErrorAsTransmitter = false
+isAsk FlagErrorAsReceiver = false
+isAsk ErrorFlagSent = false
+isAsk AcknowledgeError = false
+isAsk StuffBitOverwritten = false
+isAsk SentWell = false
+isAsk ReceivedWell = false
+isAsk ElevenRecessive = false
+isAsk Ask = true
+
+-- one group more: the 128th sets T, R and the groups to 0, and uses up the request
+abbrev pub oneMore : Ledger → Ledger
+oneMore l = cond (ltb (l .groups + 1) recoveryGroups) (ledger (l .transmit .0) (l .receive .0) (l .groups + 1) (l .asked)) new
+
+-- a recessive group when bus-off: it counts only after a recovery was asked for (W-210; 001 8.1.4.4, "Upon a restart request")
 abbrev pub grouped : Ledger → Ledger
-grouped l = cond (ltb (l .groups + 1) recoveryGroups) (ledger (l .transmit .0) (l .receive .0) (l .groups + 1)) new
+grouped l = cond (l .asked) (oneMore l) l
 
--- when bus-off only recessive groups count and every other event changes nothing
+-- asking when bus-off; again, it changes nothing (W-210)
+abbrev pub asking : Ledger → Ledger
+asking l = ledger (l .transmit .0) (l .receive .0) (l .groups) true
+
+-- when bus-off only recessive groups and the asking count and every other event changes nothing
 unfoldable pub waiting : Event → Ledger → Ledger
-waiting e l = cond (isGroup e) (grouped l) l
+waiting e l = cond (isGroup e) (grouped l) (cond (isAsk e) (asking l) l)
 
 -- an event when not bus-off
 abbrev pub counting : Event → Ledger → Ledger
 counting e l =
     let c = change e (l .transmit .0) (l .receive .0) in
-    ledger (c .T) (c .R) (l .groups)
+    ledger (c .T) (c .R) (l .groups) (l .asked)
 
 -- THE RULES: an event and a ledger to the next ledger
 unfoldable pub next : Event → Ledger → Ledger

@@ -8,7 +8,7 @@ use Rattle.counts.specs.Numbers.{offAbove, receiveHeld, receivedDownTo, mostTra
 use Rattle.counts.specs.Counts.{isPassive}
 use Rattle.ledger.specs.declared.ledger.Ledger.{Ledger}
 use Rattle.ledger.specs.declared.event.Event.{Event}
-use Rattle.ledger.specs.declared.event.Event.the-variants.{ErrorSeen, DominantAfterFlag, FlagErrorAsTransmitter, FlagErrorAsReceiver, ErrorFlagSent, AcknowledgeError, StuffBitOverwritten, SentWell, ReceivedWell, ElevenRecessive}
+use Rattle.ledger.specs.declared.event.Event.the-variants.{ErrorSeen, DominantAfterFlag, FlagErrorAsTransmitter, FlagErrorAsReceiver, ErrorFlagSent, AcknowledgeError, StuffBitOverwritten, SentWell, ReceivedWell, ElevenRecessive, Ask}
 use Rattle.ledger.specs.Cases.{cond-either}
 use Rattle.ledger.specs.Rules.{change, waiting, counting, next}
 
@@ -37,3 +37,4 @@ change-le StuffBitOverwritten t r p q = omega arith
 change-le SentWell t r p q = omega arith
 change-le ReceivedWell t r p q = (omega arith, cond-either (λ n. n ≤ receiveHeld) (ltb receivedDownTo r) (omega arith) (omega arith))
 change-le ElevenRecessive t r p q = omega arith
+change-le Ask t r p q = omega arith

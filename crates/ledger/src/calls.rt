@@ -1,4 +1,4 @@
-// The public calls: one for each event of document 01, each handing back the next ledger or refusal 7.
+// The public calls: one for each event, each handing back the next ledger or refusal 7.
 ghost use mathlib.Core.Path.{_≡_};
 ghost use Rattle.ledger.specs.Answer.{after};
 use crate::event::Event;
@@ -90,5 +90,12 @@ impl Ledger {
         ensures { λ r. ⌜ r ≡ after Event.ElevenRecessive self ⌝ }
     {
         self.step(Event::ElevenRecessive)
+    }
+
+    // A recovery asked for.
+    pub fn ask(self) -> Ledgered
+        ensures { λ r. ⌜ r ≡ after Event.Ask self ⌝ }
+    {
+        self.step(Event::Ask)
     }
 }

@@ -1,6 +1,6 @@
-// What can happen to a station, in document 01's order.
+// What can happen to a station, in document 01's order, and the asking of W-210.
 ghost use mathlib.Core.Path.{_≡_};
-ghost use Rattle.ledger.specs.Rules.{isGroup};
+ghost use Rattle.ledger.specs.Rules.{isGroup, isAsk};
 
 pub enum Event {
     // An error seen as receiver.
@@ -23,6 +23,8 @@ pub enum Event {
     ReceivedWell,
     // Eleven recessive bits seen.
     ElevenRecessive,
+    // A recovery asked for. Recessive bits seen before it belong to no group.
+    Ask,
 }
 
 impl Event {
@@ -41,6 +43,26 @@ impl Event {
             Event::SentWell => false,
             Event::ReceivedWell => false,
             Event::ElevenRecessive => true,
+            Event::Ask => false,
+        }
+    }
+
+    // Whether it asks for a recovery.
+    pub(crate) fn is_ask(self) -> bool
+        ensures { λ r. ⌜ r ≡ isAsk self ⌝ }
+    {
+        match self {
+            Event::ErrorSeen => false,
+            Event::DominantAfterFlag => false,
+            Event::FlagErrorAsTransmitter => false,
+            Event::FlagErrorAsReceiver => false,
+            Event::ErrorFlagSent => false,
+            Event::AcknowledgeError => false,
+            Event::StuffBitOverwritten => false,
+            Event::SentWell => false,
+            Event::ReceivedWell => false,
+            Event::ElevenRecessive => false,
+            Event::Ask => true,
         }
     }
 }

@@ -7,9 +7,9 @@ use crate::event::Event;
 use crate::ledger::Ledger;
 use crate::ledger::Ledgered;
 
-// The event that a number from 0 to 9 stands for.
+// The event that a number from 0 to 10 stands for.
 fn event_of(n: u8) -> Event
-    requires { ⌜ n ≤ 9 ⌝ }
+    requires { ⌜ n ≤ 10 ⌝ }
     ensures { λ e. ⌜ eventOf n ≡ e ∷ [] ⌝ }
 {
     match n {
@@ -22,22 +22,23 @@ fn event_of(n: u8) -> Event
         6 => Event::StuffBitOverwritten,
         7 => Event::SentWell,
         8 => Event::ReceivedWell,
-        _ => Event::ElevenRecessive,
+        9 => Event::ElevenRecessive,
+        _ => Event::Ask,
     }
 }
 
 impl Ledger {
-    // One number: its event, or nothing where it is above 9.
+    // One number: its event, or nothing where it is above 10.
     fn numbered(self, n: u8) -> Ledger
         ensures { λ r. ⌜ r ≡ run (eventOf n) self ⌝ }
     {
-        if 9 < n {
+        if 10 < n {
             return self;
         }
         self.next(event_of(n))
     }
 
-    // A history lent as event numbers, the oldest first; a number above 9 is no event. The record is looked at once, at the start.
+    // A history lent as event numbers, the oldest first; a number above 10 is no event. The record is looked at once, at the start.
     pub fn replay(self, numbers: &[u8]) -> Ledgered
         ensures { λ r. ⌜ r ≡ afterAll (events (now (numbers .entry))) self ⌝ }
     {

@@ -7,11 +7,12 @@ use counts::ReceiveCount;
 use counts::TransmitCount;
 use counts::is_passive;
 
-// Both counts, and the groups of eleven recessive bits seen since it went bus-off. Ranges: docs/RANGES.md.
+// Both counts; when bus-off, also whether a recovery was asked for, and the groups of eleven recessive bits seen since. Ranges: docs/RANGES.md.
 pub struct Ledger {
     pub transmit: TransmitCount,
     pub receive: ReceiveCount,
     pub groups: u8,
+    pub asked: bool,
 }
 
 // What a call answers: 0 and the next ledger, or refusal 7 and the ledger that it was given.
@@ -21,7 +22,7 @@ pub struct Ledgered {
 }
 
 impl Ledger {
-    // A new ledger: both counts are 0.
+    // A new ledger: both counts are 0, and nobody has asked.
     pub fn new() -> Ledger
         ensures { λ r. ⌜ r ≡ new ⌝ }
     {
@@ -29,6 +30,7 @@ impl Ledger {
             transmit: TransmitCount(0),
             receive: ReceiveCount(0),
             groups: 0,
+            asked: false,
         }
     }
 
@@ -47,13 +49,14 @@ impl Ledger {
         State::Active
     }
 
-    // Whether each number of the record lies in its range.
+    // Whether what the record holds lies in its range.
     pub(crate) fn in_range(self) -> bool
         ensures { λ r. ⌜ r ≡ inRange self ⌝ }
     {
         let t = self.transmit;
         let r = self.receive;
         let g = self.groups;
-        t.fits() & r.fits() & (g <= 127) & (t.is_off() | (g == 0))
+        let asked = self.asked;
+        t.fits() & r.fits() & (g <= 127) & (t.is_off() | !asked) & (asked | (g == 0))
     }
 }

@@ -1,14 +1,14 @@
 // The rules: the next ledger at each event, for any record.
 ghost use mathlib.Core.Path.{_≡_};
 ghost use mathlib.Core.Bool.{false};
-ghost use Rattle.ledger.specs.Rules.{isOff, grouped, waiting, counting, next};
+ghost use Rattle.ledger.specs.Rules.{isOff, oneMore, grouped, asking, waiting, counting, next};
 use crate::event::Event;
 use crate::ledger::Ledger;
 
 impl Ledger {
-    // A recessive group when bus-off: the 128th brings the station back.
-    fn grouped(mut self) -> Ledger
-        ensures { λ r. ⌜ r ≡ grouped self ⌝ }
+    // One group more: the 128th brings the station back, and uses up the request.
+    fn one_more(mut self) -> Ledger
+        ensures { λ r. ⌜ r ≡ oneMore self ⌝ }
     {
         let g = self.groups;
         if g < 127 {
@@ -18,12 +18,33 @@ impl Ledger {
         Ledger::new()
     }
 
+    // A recessive group when bus-off: it counts once a recovery was asked for.
+    fn grouped(self) -> Ledger
+        ensures { λ r. ⌜ r ≡ grouped self ⌝ }
+    {
+        if self.asked {
+            return self.one_more();
+        }
+        self
+    }
+
+    // A recovery asked for when bus-off, for the first time or again.
+    fn asking(mut self) -> Ledger
+        ensures { λ r. ⌜ r ≡ asking self ⌝ }
+    {
+        self.asked = true;
+        self
+    }
+
     // Any event when bus-off.
     fn waiting(self, e: Event) -> Ledger
         ensures { λ r. ⌜ r ≡ waiting e self ⌝ }
     {
         if e.is_group() {
             return self.grouped();
+        }
+        if e.is_ask() {
+            return self.asking();
         }
         self
     }
@@ -70,6 +91,7 @@ impl Ledger {
                 self
             }
             Event::ElevenRecessive => self,
+            Event::Ask => self,
         }
     }
 

@@ -24,23 +24,66 @@ fn standing(l: Ledger) -> Words {
         .number(b", groups ", l.groups as u64)
 }
 
-// New, it is off after 32 error flags sent: T is 256.
-fn off() -> Ledger {
-    Ledger::new().replay(&[ERROR_FLAG_SENT; 32]).ledger
+// It goes off after 32 error flags sent: from new, T is 256.
+fn to_off(l: Ledger) -> Ledger {
+    l.replay(&[ERROR_FLAG_SENT; 32]).ledger
+}
+
+fn see_127(l: Ledger) -> Ledger {
+    l.replay(&[ELEVEN_RECESSIVE; 127]).ledger
+}
+
+fn see_128(l: Ledger) -> Ledger {
+    l.replay(&[ELEVEN_RECESSIVE; 128]).ledger
+}
+
+fn ask(l: Ledger) -> Ledger {
+    l.ask().ledger
 }
 
 pub(crate) fn groups(tally: Tally) -> Tally {
-    let waited = off().replay(&[ELEVEN_RECESSIVE; 127]).ledger;
-    let back = waited.eleven_recessive().ledger;
+    let asked = ask(to_off(Ledger::new()));
     tally
         .sample(
-            b"a station that is off sees 127 groups of eleven recessive bits",
-            standing(waited),
+            b"a station that is off and was asked to recover sees 127 groups of eleven recessive bits",
+            standing(see_127(asked)),
             b"off, T 256, R 0, groups 127",
         )
         .sample(
-            b"a station that is off sees 128 groups of eleven recessive bits",
-            standing(back),
+            b"a station that is off and was asked to recover sees 128 groups of eleven recessive bits",
+            standing(see_128(asked)),
             b"active, T 0, R 0, groups 0",
+        )
+}
+
+// Off means off until somebody looks.
+pub(crate) fn asking(tally: Tally) -> Tally {
+    let off = to_off(Ledger::new());
+    let back = see_128(ask(off));
+    tally
+        .sample(
+            b"a station that is off sees 128 groups, and nobody asked",
+            standing(see_128(off)),
+            b"off, T 256, R 0, groups 0",
+        )
+        .sample(
+            b"a station is asked to recover, goes off, and sees 128 groups",
+            standing(see_128(to_off(ask(Ledger::new())))),
+            b"off, T 256, R 0, groups 0",
+        )
+        .sample(
+            b"a station that is off sees 127 groups, is asked to recover, and sees one",
+            standing(ask(see_127(off)).eleven_recessive().ledger),
+            b"off, T 256, R 0, groups 1",
+        )
+        .sample(
+            b"a station that is off is asked, sees 127 groups, is asked again, and sees one",
+            standing(ask(see_127(ask(off))).eleven_recessive().ledger),
+            b"active, T 0, R 0, groups 0",
+        )
+        .sample(
+            b"a station that recovered goes off again, and sees 128 groups",
+            standing(see_128(to_off(back))),
+            b"off, T 256, R 0, groups 0",
         )
 }

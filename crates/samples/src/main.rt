@@ -24,5 +24,6 @@ fn main() {
     let t = searched::ends_dominant(t);
     let t = searched::ends_recessive(t);
     let t = listening::newer(t);
+    let t = counting::asking(t);
     t.print();
 }

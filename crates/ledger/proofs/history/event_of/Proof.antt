@@ -1,4 +1,4 @@
--- The event of each number from 0 to 9: by computation, and in the last arm n is 9, being at most 9 and none of 0 to 8.
+-- The event of each number from 0 to 10: by computation, and in the last arm n is 10, being at most 10 and none of 0 to 9.
 use Prim.Native.Nat.{ℕ, zero, suc, _≤_}
 use native.Mathlib.Omega.{arith}
 use mathlib.Core.Path.{_≡_}
@@ -15,8 +15,8 @@ not-below : (k n : ℕ) → NoneBelow k n → k ≤ n
 not-below zero n h = omega arith
 not-below (suc k) n h = omega (arith, not-below k n (h .0), h .1)
 
-nine : (n : ℕ) → 9 ≤ n → n ≤ 9 → n ≡ 9
-nine n p q = omega arith
+ten : (n : ℕ) → 10 ≤ n → n ≤ 10 → n ≡ 10
+ten n p q = omega arith
 
 returns : tie.Need-returns
 unfolding eventOf
@@ -56,9 +56,13 @@ returns-9 c = rw (c .match .keys9)
 
 returns-10 : tie.Need-returns-10
 unfolding eventOf
-returns-10 c =
-    let at-least : 9 ≤ c .before .args .n = not-below 9 (c .before .args .n) (c .match .rest) in
-    let last : c .before .args .n ≡ 9 = nine (c .before .args .n) at-least (c .before .pre) in
+returns-10 c = rw (c .match .keys10)
+
+returns-11 : tie.Need-returns-11
+unfolding eventOf
+returns-11 c =
+    let at-least : 10 ≤ c .before .args .n = not-below 10 (c .before .args .n) (c .match .rest) in
+    let last : c .before .args .n ≡ 10 = ten (c .before .args .n) at-least (c .before .pre) in
     rw last
 
 pub event-of-spec : {M : Type 1} → statement M
@@ -74,4 +78,5 @@ event-of-spec =
     returns-7
     returns-8
     returns-9
-    returns-10)
+    returns-10
+    returns-11)

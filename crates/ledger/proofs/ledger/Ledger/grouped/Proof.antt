@@ -1,17 +1,14 @@
--- A group when bus-off: one more, or at the 128th a new ledger.
-use Prim.Native.Nat.{_+_}
-use native.Mathlib.Omega.{arith}
+-- A group when bus-off counts once it was asked for: by the test on the request.
 use borrow.Author.Needs.{needs}
-use borrow.Author.Tests.{lt-ltb, le-ltb}
-use Rattle.ledger.specs.Numbers.{recoveryGroups}
+use Rattle.proving.specs.Tests.{called}
 use Rattle.ledger.proofs.ledger.Ledger.grouped.Statement.{statement}
 use Rattle.ledger.proofs.ledger.Ledger.grouped.Tie as tie
 
 returns : tie.Need-returns
-returns c = simp (lt-ltb (c .before .args .self .groups + 1) recoveryGroups (omega arith))
+returns c = search called
 
 returns-2 : tie.Need-returns-2
-returns-2 c = simp (le-ltb (c .before .before .args .self .groups + 1) recoveryGroups (omega arith)) (c .new .ensures)
+returns-2 c = search called
 
 pub grouped-spec : {M : Type 1} → statement M
-grouped-spec = tie.close (tie.spec (search needs) returns (search needs) returns-2)
+grouped-spec = tie.close (tie.spec (search needs) returns returns-2)

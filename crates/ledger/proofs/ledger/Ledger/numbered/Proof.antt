@@ -1,4 +1,4 @@
--- One number of a history: its event, or none above 9.
+-- One number of a history: its event, or none above 10.
 use native.Mathlib.Omega.{arith}
 use borrow.Author.Needs.{needs}
 use Rattle.ledger.specs.History.{run}
