@@ -29,7 +29,7 @@ use Rattle.listener.specs.declared.answers.Heard.{Heard}
 use Rattle.listener.specs.Listener.{newListener, keptIn, answerTo, accepted}
 use Rattle.claims.specs.Answers.{said, handed}
 use Rattle.claims.specs.Table.{Where, waiting, ready, stuffed, crcDelimiter, ackSlot, ackDelimiter, endOfFrame, intermission, recessivesFrom, recessives, sixth, reading, newerBegun, ended, onward, checks, row}
-use Rattle.claims.proofs.Cases.{either}
+use Rattle.proving.specs.Cases.{either}
 use Rattle.claims.proofs.Follows.{isTaken, Follows}
 use Rattle.claims.proofs.Stuffing.{walker, open-onward}
 use Rattle.claims.proofs.Simulated.{sim-old}

@@ -27,7 +27,7 @@ use Rattle.claims.specs.Numbers.{settling}
 use Rattle.claims.specs.Lines.{recessive, Piece, lineOf, Line, reply, repliesTo, CameFrom}
 use Rattle.claims.specs.Newer.{newerStart, newerReply}
 use Rattle.claims.specs.Histories.{Listening, answersTo, reached, acceptedOf, tableAnswers}
-use Rattle.claims.proofs.Cases.{either}
+use Rattle.proving.specs.Cases.{either}
 use Rattle.claims.proofs.AsTable.{At, waits, readies, stuffs, delimits, slots, acks, ends, rests}
 use Rattle.claims.proofs.Trace.{where-append}
 use Rattle.claims.proofs.Complete.{Idle, is-ready, is-third, hears-image}

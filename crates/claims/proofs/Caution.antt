@@ -25,7 +25,7 @@ use Rattle.claims.specs.Answers.{Said, nothing, handed, stuffError, form
 use Rattle.claims.specs.Table.{Where, waiting, ready, stuffed, crcDelimiter, ackSlot, ackDelimiter, endOfFrame, intermission, Row, sixth, newerBegun, checks, receivedFrom, row}
 use Rattle.claims.specs.Numbers.{quiet}
 use Rattle.claims.specs.Lines.{recessive, allButLast, CameFrom}
-use Rattle.claims.proofs.Cases.{either}
+use Rattle.proving.specs.Cases.{either}
 use Rattle.claims.proofs.Frames.{padded-stored}
 use Rattle.claims.proofs.Marks.{Since, front, Marks, end-more}
 

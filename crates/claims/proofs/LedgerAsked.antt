@@ -9,7 +9,7 @@ use Rattle.ledger.specs.declared.event.Event.{Event}
 use Rattle.ledger.specs.declared.event.Event.the-variants.{ErrorSeen, DominantAfterFlag, FlagErrorAsTransmitter, FlagErrorAsReceiver, ErrorFlagSent, AcknowledgeError, StuffBitOverwritten, SentWell, ReceivedWell, ElevenRecessive, Ask}
 use Rattle.ledger.specs.Rules.{isGroup, isAsk}
 use Rattle.claims.specs.LedgerHistory.{group, groups, asked, sinceAsked}
-use Rattle.claims.proofs.Cases.{either}
+use Rattle.proving.specs.Cases.{either}
 
 -- a recessive group, and no asking
 

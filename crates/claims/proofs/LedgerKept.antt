@@ -24,7 +24,7 @@ use Rattle.ledger.specs.History.{run, afterAll}
 use Rattle.ledger.specs.HistoryLaws.{run-append, run-in-range}
 use Rattle.claims.specs.LedgerHistory.{T-of, R-of, groups, asked, sinceAsked, NotPassed, Passed}
 use Rattle.claims.specs.Promises.{LedgerPromise, LedgerPromises, standing}
-use Rattle.claims.proofs.Cases.{either}
+use Rattle.proving.specs.Cases.{either}
 use Rattle.claims.proofs.LedgerAsked.{since-unasked}
 use Rattle.claims.proofs.LedgerRun.{run-waits, run-as-new, run-not-passed, run-passed}
 use Rattle.claims.proofs.LedgerSplit.{split, still-passed, recovered}

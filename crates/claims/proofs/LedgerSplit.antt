@@ -12,7 +12,7 @@ use Rattle.ledger.specs.declared.event.Event.{Event}
 use Rattle.ledger.specs.declared.event.Event.the-variants.{ElevenRecessive}
 use Rattle.ledger.specs.Numbers.{recoveryGroups}
 use Rattle.ledger.specs.Rules.{isGroup}
-use Rattle.ledger.specs.Cases.{lt-or-le}
+use Rattle.proving.specs.Cases.{lt-or-le}
 use Rattle.claims.specs.LedgerHistory.{T-of, group, groups, sinceAsked, Calm, AsNew, new, recovery, NotPassed, Passed}
 use Rattle.claims.proofs.LedgerAsked.{only-eleven, since-more}
 

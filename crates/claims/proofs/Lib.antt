@@ -1,4 +1,3 @@
-pub mod Cases
 pub mod Stuffing
 pub mod Follows
 pub mod Parts

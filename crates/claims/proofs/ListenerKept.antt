@@ -27,7 +27,7 @@ use Rattle.claims.specs.Numbers.{settling}
 use Rattle.claims.specs.Lines.{recessive, Piece, lineOf, Line}
 use Rattle.claims.specs.Sixteen.{beforeSixteen}
 use Rattle.claims.specs.Promises.{ListenerPromises}
-use Rattle.claims.proofs.Cases.{either}
+use Rattle.proving.specs.Cases.{either}
 use Rattle.claims.proofs.Reached.{Good, good-new, good-call, heard-accepted, heard-refused}
 use Rattle.claims.proofs.Calls as calls
 

@@ -21,7 +21,7 @@ use Rattle.wire.specs.FramesLaws.{gotFields, GotIn, sized-frames}
 use Rattle.claims.specs.Table.{Where, waiting, ready, stuffed, crcDelimiter, ackSlot, ackDelimiter, endOfFrame, intermission, Row, recessivesFrom, recessives, sixth, reading, newerBegun, ended, onward, checks, row}
 use Rattle.claims.specs.Numbers.{quiet}
 use Rattle.claims.specs.Lines.{recessive}
-use Rattle.claims.proofs.Cases.{either}
+use Rattle.proving.specs.Cases.{either}
 use Rattle.claims.proofs.Stuffing.{walker, open-onward, whole-bits}
 use Rattle.claims.proofs.AsTable.{recessives-snoc}
 

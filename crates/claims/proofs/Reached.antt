@@ -19,7 +19,7 @@ use Rattle.listener.specs.Listener as machine
 use Rattle.claims.specs.Answers.{Said, refused, said}
 use Rattle.claims.specs.Table.{Where, waiting, row, whereFrom, saysFrom}
 use Rattle.claims.specs.Histories.{afterCalls, answersTo, reached, acceptedOf, tableAnswers}
-use Rattle.claims.proofs.Cases.{either}
+use Rattle.proving.specs.Cases.{either}
 use Rattle.claims.proofs.AsTable.{Stands, stands-new, step-table}
 use Rattle.claims.proofs.Seventeen.{Valid, valid-row}
 use Rattle.claims.proofs.Marks.{Marks, marks-row}

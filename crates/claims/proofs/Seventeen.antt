@@ -14,7 +14,7 @@ use Rattle.wire.specs.Layout.{Layout, done, part, newer, Got}
 use Rattle.claims.specs.Table.{Where, waiting, ready, stuffed, crcDelimiter, ackSlot, ackDelimiter, endOfFrame, intermission, Row, recessives, sixth, reading, newerBegun, ended, onward, checks, row, whereFrom}
 use Rattle.claims.specs.Numbers.{settling}
 use Rattle.claims.specs.Lines.{recessive}
-use Rattle.claims.proofs.Cases.{either}
+use Rattle.proving.specs.Cases.{either}
 use Rattle.claims.proofs.AsTable.{recessives-snoc}
 
 -- THE NUMBERS OF A PLACE ARE IN RANGE

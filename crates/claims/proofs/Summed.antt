@@ -15,7 +15,7 @@ use Rattle.reader.specs.declared.fields.Field.the-variants.{Upper, Srr, Ide, Lo
 use Rattle.reader.specs.declared.registers.Registers.{Registers}
 use Rattle.reader.specs.declared.readers.Reader.{Reader}
 use Rattle.reader.specs.Reader.{widthOf, isDone, isSummed, putOf, nextOf, dataOrCrc, bytesToCome, shifted, within, turned, tookOf}
-use Rattle.claims.proofs.Cases.{either}
+use Rattle.proving.specs.Cases.{either}
 use Rattle.claims.proofs.Parts.{Part, before, check, behind}
 
 -- THE CRC'S REGISTER

@@ -3,15 +3,15 @@ use Prim.Native.Nat.{ℕ, _+_, _≤_, _<_}
 use native.Mathlib.Omega.{arith}
 use mathlib.Core.Path.{_≡_, refl}
 use mathlib.Core.Logic.{⊎-elim}
-use mathlib.Core.Bool.{Bool, true, false, cond, not, _&&_, _||_, true≢false, false≢true}
+use mathlib.Core.Bool.{Bool, true, false, not, _&&_, _||_, true≢false, false≢true}
 use lib.Dec.{leb, eqb}
 use borrow.Author.Tests.{lt-ltb, le-ltb, le-leb, eq-eqb, leb-true, eqb-true}
+use Rattle.proving.specs.Cases.{lt-or-le, either}
 use Rattle.counts.specs.Numbers.{offAbove, receiveHeld, mostTransmit}
 use Rattle.counts.specs.Counts.{off}
 use Rattle.ledger.specs.declared.ledger.Ledger.{Ledger}
 use Rattle.ledger.specs.declared.event.Event.{Event}
 use Rattle.ledger.specs.Numbers.{recoveryGroups, mostGroups}
-use Rattle.ledger.specs.Cases.{lt-or-le, cond-either}
 use Rattle.ledger.specs.Rules.{ledger, new, isOff, isGroup, isAsk, oneMore, waiting, counting, next}
 use Rattle.ledger.specs.RulesLaws.{next-on, next-off, change-le}
 use Rattle.ledger.specs.Answer.{inRange}
@@ -104,14 +104,12 @@ module _ (l : Ledger) (o : offAbove < l .transmit .0) (h : Ranged l) where
       (λ g. rw (le-ltb (l .groups + 1) recoveryGroups g) new-ranged)
       (lt-or-le (l .groups + 1) recoveryGroups)
 
-  grouped-ranged : (a : Bool) → l .asked ≡ a → Ranged (cond a (oneMore l) l)
-  grouped-ranged true a = one-more-ranged a
-  grouped-ranged false a = h
-
   waiting-ranged : (e : Event) → Ranged (waiting e l)
   unfolding waiting
   waiting-ranged e =
-      cond-either Ranged (isGroup e) (grouped-ranged (l .asked) refl) (cond-either Ranged (isAsk e) (asked-ranged (l .groups) (h .groups-le)) h)
+      either Ranged (isGroup e)
+      (λ _. either Ranged (l .asked) one-more-ranged (λ _. h))
+      (λ _. either Ranged (isAsk e) (λ _. asked-ranged (l .groups) (h .groups-le)) (λ _. h))
 
 counting-ranged : (e : Event) (l : Ledger) → l .transmit .0 ≤ offAbove → Ranged l → Ranged (counting e l)
 counting-ranged e l o h =

@@ -4,12 +4,12 @@ use native.Mathlib.Omega.{arith}
 use mathlib.Core.Path.{_≡_}
 use lib.Dec.{ltb}
 use borrow.Author.Tests.{lt-ltb, le-ltb}
+use Rattle.proving.specs.Cases.{either}
 use Rattle.counts.specs.Numbers.{offAbove, receiveHeld, receivedDownTo, mostTransmit}
 use Rattle.counts.specs.Counts.{isPassive}
 use Rattle.ledger.specs.declared.ledger.Ledger.{Ledger}
 use Rattle.ledger.specs.declared.event.Event.{Event}
 use Rattle.ledger.specs.declared.event.Event.the-variants.{ErrorSeen, DominantAfterFlag, FlagErrorAsTransmitter, FlagErrorAsReceiver, ErrorFlagSent, AcknowledgeError, StuffBitOverwritten, SentWell, ReceivedWell, ElevenRecessive, Ask}
-use Rattle.ledger.specs.Cases.{cond-either}
 use Rattle.ledger.specs.Rules.{change, waiting, counting, next}
 
 -- bus-off or not
@@ -32,9 +32,9 @@ change-le DominantAfterFlag t r p q = omega arith
 change-le FlagErrorAsTransmitter t r p q = omega arith
 change-le FlagErrorAsReceiver t r p q = omega arith
 change-le ErrorFlagSent t r p q = omega arith
-change-le AcknowledgeError t r p q = (cond-either (λ n. n ≤ mostTransmit) (isPassive t r) (omega arith) (omega arith), q)
+change-le AcknowledgeError t r p q = (either (λ (n : ℕ). n ≤ mostTransmit) (isPassive t r) (λ _. omega arith) (λ _. omega arith), q)
 change-le StuffBitOverwritten t r p q = omega arith
 change-le SentWell t r p q = omega arith
-change-le ReceivedWell t r p q = (omega arith, cond-either (λ n. n ≤ receiveHeld) (ltb receivedDownTo r) (omega arith) (omega arith))
+change-le ReceivedWell t r p q = (omega arith, either (λ (n : ℕ). n ≤ receiveHeld) (ltb receivedDownTo r) (λ _. omega arith) (λ _. omega arith))
 change-le ElevenRecessive t r p q = omega arith
 change-le Ask t r p q = omega arith

@@ -1,4 +1,4 @@
--- Two ways to tell cases apart that the laws use.
+-- Telling cases apart: of two numbers, and by the outcome of a test.
 use Prim.Native.Nat.{ℕ, _≤_, _<_}
 use mathlib.Core.Path.{_≡_, refl}
 use mathlib.Core.Logic.{_⊎_, inl, inr}
@@ -13,6 +13,7 @@ lt-or-le a b = go (ltb a b) refl
     go true e = inl (ltb-true a b e)
     go false e = inr (ltb-false a b e)
 
-pub cond-either : {A : Type 0} (P : A → Type 0) (b : Bool) {x y : A} → P x → P y → P (cond b x y)
-cond-either P true p q = p
-cond-either P false p q = q
+-- what holds of both outcomes of a test holds of the choice between them
+pub either : {A : Type 0} (P : A → Type 0) (t : Bool) {x y : A} → (t ≡ true → P x) → (t ≡ false → P y) → P (cond t x y)
+either P true f g = f refl
+either P false f g = g refl
