@@ -2,7 +2,7 @@
 -- start position on begin with the frame's image, which is answered as every legal image is.
 use Prim.Native.Nat.{ℕ, _+_, _-_}
 use mathlib.Core.Path.{_≡_, refl, sym, ap, subst, _∙_}
-use mathlib.Core.Bool.{true}
+use mathlib.Core.Bool.{Bool, true, false}
 use mathlib.Core.List.{List, [], _∷_, _++_, append-assoc}
 use lib.ListN.{length, take, drop, replicate}
 use lib.Seq.{drop-at, length-take-le}
@@ -60,20 +60,20 @@ ready-hears r l = image-heard (recessive idle) r l (subst Listening (sym place-r
 
 -- A FRAME THAT WAS WRITTEN
 
-module _ (f : Frame) (c c′ : List ℕ) (start : ℕ) (w : Written) (says : outcome w c′ ≡ answer f c start) where
-  back-by : readBack f c start ≡ heardBack f start (outcome w c′)
+module _ (f : Frame) (old : Bool) (c c′ : List ℕ) (start : ℕ) (w : Written) (says : outcome w c′ ≡ answer f old c start) where
+  back-by : readBack f old c start ≡ heardBack f start (outcome w c′)
   unfolding readBack
   back-by = ap (heardBack f start) (sym says)
 
   module _ (z : w .refusal ≡ 0) where
-    taken : frameRefusal f ≡ 0
-    taken = frame-taken f c c′ start w says z
+    taken : frameRefusal f false ≡ 0
+    taken = frame-taken f old c c′ start w says z
 
     -- from the start position on: the image, and what stood behind it
     from-start : drop start c′ ≡ wireBits f ++ drop (start + length (wireBits f)) c
     from-start =
-        ap (drop start) (capture-placed f c c′ start w says z ∙ append-assoc (take start c) (wireBits f) (drop (start + length (wireBits f)) c))
-        ∙ drop-at (take start c) (wireBits f ++ drop (start + length (wireBits f)) c) start (length-take-le start c (inside f c c′ start w says z))
+        ap (drop start) (capture-placed f old c c′ start w says z ∙ append-assoc (take start c) (wireBits f) (drop (start + length (wireBits f)) c))
+        ∙ drop-at (take start c) (wireBits f ++ drop (start + length (wireBits f)) c) start (length-take-le start c (inside f old c c′ start w says z))
 
     -- the image is answered as that of the frame that is read back
     sent-heard : EightBytes f
@@ -91,11 +91,11 @@ module _ (f : Frame) (c c′ : List ℕ) (start : ℕ) (w : Written) (says : out
         ∙ seek-reply readyListener start (wireBits f) (drop (start + length (wireBits f)) c) (readAs f) (sent-heard b)
 
     pub back-handed : EightBytes f → (l : Listener) (r : Found) → l ≡ readyListener → r ≡ found l c′ start
-        → cameBack r c′ ≡ readBack f c start
+        → cameBack r c′ ≡ readBack f old c start
     back-handed b l r ready e =
         ap (λ (x : Found). cameBack x c′) (e ∙ ap (λ (k : Listener). found k c′ start) ready ∙ handed-out b)
         ∙ sym (rw (back-by, eq-eqb (w .refusal) 0 z))
 
   pub back-refused : (w .refusal ≡ 0 → ⊥) → (l : Listener) (h : Heard) (r : Found)
-      → l ≡ readyListener → h ≡ refused (w .refusal) l → r ≡ foundAt start h → cameBack r c′ ≡ readBack f c start
+      → l ≡ readyListener → h ≡ refused (w .refusal) l → r ≡ foundAt start h → cameBack r c′ ≡ readBack f old c start
   back-refused n l h r ready e q = rw (back-by, ne-eqb (w .refusal) 0 n) (cc)

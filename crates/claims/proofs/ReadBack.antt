@@ -2,6 +2,7 @@
 -- makes it so.
 use Prim.Native.Nat.{ℕ, _-_, _≤_}
 use mathlib.Core.Path.{_≡_, refl, sym, ap, subst, _∙_}
+use mathlib.Core.Bool.{false}
 use mathlib.Core.List.{_++_}
 use native.Mathlib.Omega.{arith}
 use lib.ListN.{length, take, replicate, length-take}
@@ -20,7 +21,7 @@ use Rattle.writer.specs.Writer.{sentAs}
 use Rattle.claims.specs.ReadBack.{readAs, EightBytes}
 use Rattle.claims.proofs.Frames.{all-bytes, take-bytes, padded-stored}
 
-module _ (f : Frame) (ok : frameRefusal f ≡ 0) (b : EightBytes f) where
+module _ (f : Frame) (ok : frameRefusal f false ≡ 0) (b : EightBytes f) where
   count-is : f .count ≡ carried (f .remote) (f .code)
   count-is = sym (count-fits f ok)
 

@@ -17,5 +17,5 @@ one p q = (ap (λ (o : CameBack). o .found) (p ∙ sym q), ap (λ (o : CameBack)
 
 -- `Learnt` is the call's own contract, as its callers learn it
 pub pinned : (κs : Lfts 1) (a : Dens κs kinds.ps) (x y : resT kinds.r κs .Denot) (s t : AtExit (endedOf 1 kinds.ps kinds.r) κs)
-    → reads.Learnt κs a x s → reads.Learnt κs a y t → (x ≡ y) × (now (s .1 .0) ≡ now (t .1 .0))
+    → reads.Learnt κs a x s → reads.Learnt κs a y t → (x ≡ y) × (now (s .1 .1 .0) ≡ now (t .1 .1 .0))
 pinned κs a x y s t = one

@@ -5,6 +5,7 @@ pub mod Lines
 pub mod Newer
 pub mod Histories
 pub mod Sixteen
+pub mod Old
 pub mod ReadBack
 pub mod LedgerHistory
 pub mod LedgerSamples

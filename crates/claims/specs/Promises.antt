@@ -8,6 +8,7 @@ use lib.ListN.{length, take, drop, replicate}
 use Rattle.wire.specs.declared.idents.Ident.{Ident}
 use Rattle.wire.specs.declared.frames.Frame.{Frame}
 use Rattle.wire.specs.declared.frames.Received.{Received}
+use Rattle.wire.specs.Numbers.{highestBase, highestOld}
 use Rattle.wire.specs.Image.{image}
 use Rattle.wire.specs.ImageLaws.{longest}
 use Rattle.wire.specs.Legal.{IdentIn, Legal}
@@ -27,6 +28,7 @@ use Rattle.ledger.specs.Answer.{inRange, accepted, after}
 use Rattle.ledger.specs.History.{afterAll}
 use Rattle.claims.specs.declared.ledger_history.Standing.{Standing}
 use Rattle.claims.specs.Numbers.{settling}
+use Rattle.claims.specs.Old.{Barred, upperSeven}
 use Rattle.claims.specs.Answers.{handed, refused, said}
 use Rattle.claims.specs.Table.{waiting}
 use Rattle.claims.specs.Lines.{recessive, Piece, lineOf, Line, reply, repliesTo, CameFrom}
@@ -37,20 +39,30 @@ use Rattle.claims.specs.ReadBack.{readAs, EightBytes}
 use Rattle.claims.specs.LedgerHistory.{T-of, R-of, groups, asked, sinceAsked, NotPassed, Passed}
 use Rattle.claims.specs.Samples.{Samples}
 
--- THE WRITER: `outcome w c′ ≡ answer f c start` is the contract of `write`, where c is the capture at entry and c′ at exit
+-- THE WRITER: `outcome w c′ ≡ answer f old c start` is the contract of `write`, where c is the capture at entry and c′ at exit, and `old` is the
+-- "old controllers" mark
 
 pub record WriterPromises : Type 0 where
-  -- demand 1, "Bad input gets the refusal that document 01 lists, by number": each exactly when its condition holds and none smaller applies
-  pub refusals : (f : Frame) (c c′ : List ℕ) (start : ℕ) (w : Written) → outcome w c′ ≡ answer f c start → Exactly f c start (w .refusal)
+  -- demand 1, "Bad input gets the refusal that document 01 lists, by number": each exactly when its condition holds and none before it applies
+  pub refusals : (f : Frame) (old : Bool) (c c′ : List ℕ) (start : ℕ) (w : Written) → outcome w c′ ≡ answer f old c start → Exactly f old c start (w .refusal)
   -- demand 1, "a refused call changes no record and writes no byte of a lent buffer"
-  pub untouched : (f : Frame) (c c′ : List ℕ) (start : ℕ) (w : Written) → outcome w c′ ≡ answer f c start → (w .refusal ≡ 0 → ⊥)
+  pub untouched : (f : Frame) (old : Bool) (c c′ : List ℕ) (start : ℕ) (w : Written) → outcome w c′ ≡ answer f old c start → (w .refusal ≡ 0 → ⊥)
       → (w .bits ≡ 0) × (c′ ≡ c)
   -- demand 2, "Frames go on the wire .. as ISO 11898-1 lays down": the image, and every other byte as it was
-  pub written : (f : Frame) (c c′ : List ℕ) (start : ℕ) (w : Written) → outcome w c′ ≡ answer f c start → w .refusal ≡ 0
+  pub written : (f : Frame) (old : Bool) (c c′ : List ℕ) (start : ℕ) (w : Written) → outcome w c′ ≡ answer f old c start → w .refusal ≡ 0
       → (w .bits ≡ length (image (sentAs f))) × (c′ ≡ take start c ++ image (sentAs f) ++ drop (start + length (image (sentAs f))) c)
   -- demand 2, "A frame we write reads back as that frame". On the code: the contract of `read_back`
-  pub reads-back : (h : List ℕ) (f : Frame) → EightBytes f → frameRefusal f ≡ 0 → Listening (reached h .core .place)
+  pub reads-back : (h : List ℕ) (f : Frame) (old : Bool) → EightBytes f → frameRefusal f old ≡ 0 → Listening (reached h .core .place)
       → answersTo (reached h) (image (sentAs f)) ≡ reply (readAs f)
+  -- W-207, "With a new "old controllers" mark set, classical base identifiers 2,032 to 2,047 get refusal 8": data and remote, whatever else is
+  -- wrong with the call, and no other call does
+  pub eight : (f : Frame) (old : Bool) (c c′ : List ℕ) (start : ℕ) (w : Written) → outcome w c′ ≡ answer f old c start
+      → (w .refusal ≡ 8) ↔ ((old ≡ true) × Barred (f .ident))
+  -- these are the base identifiers "whose upper seven bits are all recessive"
+  pub upper-seven : (i : ℕ) → i ≤ highestBase → (highestOld < i) ↔ (upperSeven i ≡ recessive 7)
+  -- and else the mark changes nothing
+  pub but-for-eight : (f : Frame) (old : Bool) (c c′ : List ℕ) (start : ℕ) (w : Written) → outcome w c′ ≡ answer f old c start → (w .refusal ≡ 8 → ⊥)
+      → outcome w c′ ≡ answer f false c start
   -- 01, "no image is longer than 132 bits for base, 157 for extended"
   pub image-length : (r : Received) → length (image r) ≤ longest (r .frame .ident)
 

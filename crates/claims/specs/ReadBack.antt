@@ -1,7 +1,7 @@
 -- A frame that is written, and what is read back (demand 2; 01 "The wire image", "What the listener does at each sample").
 use Prim.Native.Nat.{ℕ, _+_, _-_, _^_, _<_}
 use mathlib.Core.Path.{_≡_}
-use mathlib.Core.Bool.{false, cond}
+use mathlib.Core.Bool.{Bool, false, cond}
 use mathlib.Core.List.{List}
 use lib.Dec.{eqb}
 use lib.ListN.{length, getD}
@@ -66,5 +66,5 @@ heardBack f start o =
     (cond (eqb (o .written .refusal) 0) (handedOut f start) (notWritten (o .written .refusal) start))
     (o .capture)
 
-unfoldable pub readBack : Frame → List ℕ → ℕ → CameBack
-readBack f capture start = heardBack f start (answer f capture start)
+unfoldable pub readBack : Frame → Bool → List ℕ → ℕ → CameBack
+readBack f old capture start = heardBack f start (answer f old capture start)

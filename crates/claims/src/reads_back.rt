@@ -18,11 +18,11 @@ fn ready_listener() -> Listener
     f.next
 }
 
-// The frame that was written is handed out; or the writer's refusal is the answer, and no byte changes.
-pub fn read_back(frame: Frame, capture: &mut [u8], start: usize) -> Found
-    ensures { λ r. ⌜ cameBack r (now (capture .exit)) ≡ readBack frame (now (capture .entry)) start ⌝ }
+// The frame that was written is handed out; or the writer's refusal is the answer, and no byte changes. `old` marks old controllers.
+pub fn read_back(frame: Frame, old: bool, capture: &mut [u8], start: usize) -> Found
+    ensures { λ r. ⌜ cameBack r (now (capture .exit)) ≡ readBack frame old (now (capture .entry)) start ⌝ }
 {
-    let w = write(frame, capture, start);
+    let w = write(frame, old, capture, start);
     let l = ready_listener();
     if w.refusal == 0 {
         l.next(capture, start)

@@ -1,5 +1,6 @@
 // What a line is answered by.
 use crate::notation::read;
+use check::same;
 use libc::STDOUT_FILENO;
 use wire::Frame;
 
@@ -23,9 +24,9 @@ fn print_front(s: &[u8], n: usize) {
 }
 
 // The wire image, for which the capture has room, or the refusal.
-fn print_image(f: Frame) {
+fn print_image(f: Frame, old: bool) {
     let mut capture = [0u8; 160];
-    let written = writer::write(f, &mut capture, 0);
+    let written = writer::write(f, old, &mut capture, 0);
     if written.refusal == 0 {
         letters(&mut capture);
         print_front(&capture, written.bits);
@@ -36,11 +37,23 @@ fn print_image(f: Frame) {
     io::write_all(STDOUT_FILENO, b"\n");
 }
 
-pub(crate) fn answer(line: &[u8]) {
+fn print_answer(line: &[u8], old: bool) {
     let reading = read(line);
     if reading.reads {
-        print_image(reading.frame);
+        print_image(reading.frame, old);
     } else {
         io::write_all(STDOUT_FILENO, b"not a frame\n");
+    }
+}
+
+// `old` marks old controllers. A line that sets the mark prints nothing; the mark for the lines after this one is handed back.
+pub(crate) fn answer(line: &[u8], old: bool) -> bool {
+    if same(line, b"old on") {
+        true
+    } else if same(line, b"old off") {
+        false
+    } else {
+        print_answer(line, old);
+        old
     }
 }

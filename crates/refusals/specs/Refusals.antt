@@ -1,12 +1,13 @@
--- The writer's refusals (01 "When the handset says no"): a row for each number, in the order in which they are tried.
+-- The writer's refusals (01 "When the handset says no"; W-207): a row for each number, in the order in which they are tried.
 use Prim.Native.Nat.{ℕ, _-_}
-use mathlib.Core.Bool.{Bool, cond, not}
+use mathlib.Core.Bool.{Bool, false, cond, not, _&&_}
 use mathlib.Core.List.{List, [], _∷_, _++_}
 use lib.Dec.{eqb, ltb}
 use Rattle.wire.specs.declared.idents.Ident.{Ident}
 use Rattle.wire.specs.declared.idents.Ident.the-variants.{Base, Extended}
 use Rattle.wire.specs.declared.frames.Frame.{Frame}
-use Rattle.wire.specs.Numbers.{highestBase, highestExtended, highestWritten}
+use Rattle.wire.specs.Numbers.{highestBase, highestExtended, highestOld, highestWritten}
+use Rattle.wire.specs.Fields.{carried}
 
 -- a refusal's number, and whether it applies
 pub record Row : Type 0 where
@@ -26,17 +27,24 @@ abbrev pub tooLarge : Ident → Bool
 tooLarge (Base i) = ltb highestBase (i .0)
 tooLarge (Extended i) = ltb highestExtended (i .0)
 
--- 2: length code above 8
+-- 8: "old controllers" marked, and a base identifier from 2,032 on (002 3.2.1, 000 6.2.1); one above 2,047 has met 1
+abbrev pub barred : Bool → Ident → Bool
+barred old (Base i) = old && ltb highestOld (i .0)
+barred old (Extended i) = false
+
+-- 2: length code above 15
 abbrev pub overlong : ℕ → Bool
 overlong code = ltb highestWritten code
 
--- 3: data frame: byte count differs from the length code; remote frame: any byte given
+-- 3: data frame: byte count differs from the length code, or from 8 for codes 9 to 15; remote frame: any byte given
 abbrev pub miscounted : Bool → ℕ → ℕ → Bool
-miscounted remote code count = cond remote (ltb 0 count) (not (eqb count code))
+miscounted remote code count = not (eqb count (carried remote code))
 
-abbrev pub frameRows : Frame → List Row
-frameRows f =
+-- of a frame, and whether "old controllers" is marked: smallest first, with one exception, 8 behind 1 and before 2 (W-207)
+abbrev pub frameRows : Frame → Bool → List Row
+frameRows f old =
     row 1 (tooLarge (f .ident))
+    ∷ row 8 (barred old (f .ident))
     ∷ row 2 (overlong (f .code))
     ∷ row 3 (miscounted (f .remote) (f .code) (f .count))
     ∷ []
@@ -53,14 +61,14 @@ overflows bits size start = ltb (size - start) bits
 abbrev pub placeRows : ℕ → ℕ → ℕ → List Row
 placeRows bits size start = row 4 (outside size start) ∷ row 5 (overflows bits size start) ∷ []
 
--- what a frame is refused with by itself, or 0
-unfoldable pub frameRefusal : Frame → ℕ
-frameRefusal f = first (frameRows f)
+-- what a frame is refused with by itself, or 0, whoever offers it
+unfoldable pub frameRefusal : Frame → Bool → ℕ
+frameRefusal f old = first (frameRows f old)
 
 -- what the place for an image is refused with, or 0
 abbrev pub placeRefusal : ℕ → ℕ → ℕ → ℕ
 placeRefusal bits size start = first (placeRows bits size start)
 
 -- what the writer refuses a frame with, whose image has so many bits, or 0
-unfoldable pub refusal : Frame → ℕ → ℕ → ℕ → ℕ
-refusal f bits size start = first (frameRows f ++ placeRows bits size start)
+unfoldable pub refusal : Frame → Bool → ℕ → ℕ → ℕ → ℕ
+refusal f old bits size start = first (frameRows f old ++ placeRows bits size start)

@@ -6,15 +6,15 @@ use mathlib.Core.Logic.{_↔_}
 use mathlib.Core.Bool.{Bool, true, false, cond, true≢false, false≢true}
 use mathlib.Core.List.{List, [], _∷_, _++_}
 use native.Mathlib.Omega.{arith}
-use lib.Dec.{eqb, ltb}
+use lib.Dec.{eqb}
 use borrow.Author.Tests.{ne-eqb, eqb-true, eqb-false, ltb-false, not-false}
 use Rattle.wire.specs.declared.idents.Ident.{Ident}
 use Rattle.wire.specs.declared.idents.Ident.the-variants.{Base, Extended}
 use Rattle.wire.specs.declared.frames.Frame.{Frame}
-use Rattle.wire.specs.Numbers.{room, highestBase, highestExtended, highestWritten}
+use Rattle.wire.specs.Numbers.{highestBase, highestExtended, highestWritten}
 use Rattle.wire.specs.Fields.{carried}
 use Rattle.wire.specs.Legal.{IdentIn}
-use Rattle.refusals.specs.Refusals.{Row, first, tooLarge, miscounted, frameRows, placeRows, frameRefusal, placeRefusal}
+use Rattle.refusals.specs.Refusals.{Row, first, tooLarge, barred, frameRows, placeRows, frameRefusal, placeRefusal}
 
 -- no row applies
 abbrev pub None : List Row → Type 0
@@ -77,11 +77,23 @@ first-append (x ∷ xs) ys h = let w = absent-cons 0 x xs h in go (x .applies) (
     go true w i = rw (ne-eqb (x .number) 0 w)
     go false w i = i
 
+-- where nothing is marked, no identifier is barred
+pub barred-unmarked : (i : Ident) → barred false i ≡ false
+barred-unmarked (Base i) = refl
+barred-unmarked (Extended i) = refl
+
+-- and so a frame that is not refused under a mark is not refused without it
+pub unmarked : (f : Frame) (old : Bool) → frameRefusal f old ≡ 0 → frameRefusal f false ≡ 0
+unfolding frameRefusal
+unmarked f old ok =
+    let none = none-exactly (frameRows f old) refl .0 ok in
+    none-exactly (frameRows f false) refl .1 (none .0, (barred-unmarked (f .ident), none .1 .1))
+
 -- what a frame that is not refused keeps to
-module _ (f : Frame) (ok : frameRefusal f ≡ 0) where
-  none : None (frameRows f)
+module _ (f : Frame) (ok : frameRefusal f false ≡ 0) where
+  none : None (frameRows f false)
   unfolding frameRefusal
-  none = none-exactly (frameRows f) refl .0 ok
+  none = none-exactly (frameRows f false) refl .0 ok
 
   pub ident-fits : IdentIn (f .ident)
   ident-fits = go (f .ident) (none .0)
@@ -91,19 +103,13 @@ module _ (f : Frame) (ok : frameRefusal f ≡ 0) where
       go (Extended i) e = omega (arith, ltb-false highestExtended (i .0) e)
 
   pub code-fits : f .code ≤ highestWritten
-  code-fits = ltb-false highestWritten (f .code) (none .1 .0)
+  code-fits = ltb-false highestWritten (f .code) (none .1 .1 .0)
 
   -- it carries the bytes that it gives
   pub count-fits : carried (f .remote) (f .code) ≡ f .count
-  count-fits = go (f .remote) (none .1 .1 .0)
-    where
-      below : (t : Bool) → ltb (f .code) room ≡ t → cond t (f .code) room ≡ f .code
-      below true l = refl
-      below false l = omega (arith, code-fits, ltb-false (f .code) room l)
-
-      go : (remote : Bool) → miscounted remote (f .code) (f .count) ≡ false → carried remote (f .code) ≡ f .count
-      go true e = omega (arith, ltb-false 0 (f .count) e)
-      go false e = below (ltb (f .code) room) refl ∙ sym (eqb-true (f .count) (f .code) (not-false (eqb (f .count) (f .code)) e))
+  count-fits =
+      let n : ℕ = carried (f .remote) (f .code) in
+      sym (eqb-true (f .count) n (not-false (eqb (f .count) n) (none .1 .1 .1 .0)))
 
 -- a place that is not refused lies inside the capture, and has room for the image
 module _ (bits size start no : ℕ) (told : no ≡ placeRefusal bits size start) (ok : no ≡ 0) where

@@ -1,6 +1,7 @@
 // The frames of the samples, and a frame in words.
 use crate::words::Words;
 use wire::BaseId;
+use wire::ExtId;
 use wire::Frame;
 use wire::Ident;
 
@@ -13,6 +14,28 @@ pub(crate) fn base_data(identifier: u16, code: u8, count: u8) -> Frame {
         code,
         count,
         bytes,
+    }
+}
+
+// A base remote frame.
+pub(crate) fn base_remote(identifier: u16, code: u8) -> Frame {
+    Frame {
+        ident: Ident::Base(BaseId(identifier)),
+        remote: true,
+        code,
+        count: 0,
+        bytes: [0; 8],
+    }
+}
+
+// An extended data frame with no bytes.
+pub(crate) fn extended_data(identifier: u32) -> Frame {
+    Frame {
+        ident: Ident::Extended(ExtId(identifier)),
+        remote: false,
+        code: 0,
+        count: 0,
+        bytes: [0; 8],
     }
 }
 

@@ -16,7 +16,10 @@ pub(crate) const IMAGE_009: [u8; 49] = *b"00000100010010000010011111000001100000
 // Base data, identifier 017, code 0: the CRC, 521F, ends in five recessive bits, and a dominant stuff bit stands behind it.
 pub(crate) const IMAGE_017: [u8; 47] = *b"00000100101110000010010100100001111101111111111";
 
-// Base data, identifier 123, code 15, bytes 11 22 .. 88. The writer refuses it.
+// Base data, identifier 123, bytes 11 22 .. 88: code 12, and code 15.
+pub(crate) const IMAGE_CODE_12: [u8; 109] =
+    *b"0001001000110001100000110001001000100011001101000100010101010110011001110111100010000101010110101101111111111";
+
 pub(crate) const IMAGE_CODE_15: [u8; 108] =
     *b"000100100011000111100010001001000100011001101000100010101010110011001110111100010001010111001101001111111111";
 

@@ -5,7 +5,7 @@ mod frames;
 mod hearing;
 mod images;
 mod listening;
-mod searched;
+mod reading_back;
 mod tally;
 mod words;
 mod writing;
@@ -21,9 +21,13 @@ fn main() {
     let t = listening::ready(t);
     let t = listening::between(t);
     let t = counting::groups(t);
-    let t = searched::ends_dominant(t);
-    let t = searched::ends_recessive(t);
+    let t = reading_back::ends_dominant(t);
+    let t = reading_back::ends_recessive(t);
     let t = listening::newer(t);
     let t = counting::asking(t);
+    let t = reading_back::code_12(t);
+    let t = writing::codes_to_15(t);
+    let t = writing::old_identifiers(t);
+    let t = writing::old_frames(t);
     t.print();
 }

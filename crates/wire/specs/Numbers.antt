@@ -82,6 +82,10 @@ highestBase = 2047
 abbrev pub highestExtended : ℕ
 highestExtended = 536870911
 
--- the highest length code that is written
+-- the highest base identifier that old controllers take: the upper seven bits of those above are all recessive (W-207)
+abbrev pub highestOld : ℕ
+highestOld = 2031
+
+-- the highest length code that is written (W-207)
 abbrev pub highestWritten : ℕ
-highestWritten = 8
+highestWritten = 15

@@ -1,7 +1,7 @@
 -- Laws shaped like what the branches of `write` leave to show: what a call of the writer answers.
 use Prim.Native.Nat.{ℕ, _+_, _-_, _≤_}
 use mathlib.Core.Path.{_≡_, refl, sym, ap, _∙_}
-use mathlib.Core.Bool.{cond}
+use mathlib.Core.Bool.{Bool, cond}
 use mathlib.Core.List.{List, _++_, append-assoc, append-nil}
 use native.Mathlib.Nat.{zero-add, sub-zero}
 use native.Mathlib.Omega.{arith}
@@ -35,11 +35,11 @@ middle c v i h l =
       append-assoc,
     )
 
-module _ (f : Frame) (c : List ℕ) (start no : ℕ) (own : no ≡ frameRefusal f) where
-  refusal-by : refusal f (length (wireBits f)) (length c) start ≡ cond (eqb no 0) (placeRefusal (length (wireBits f)) (length c) start) no
-  refusal-by = rw own (refusal-first f c start)
+module _ (f : Frame) (old : Bool) (c : List ℕ) (start no : ℕ) (own : no ≡ frameRefusal f old) where
+  refusal-by : refusal f old (length (wireBits f)) (length c) start ≡ cond (eqb no 0) (placeRefusal (length (wireBits f)) (length c) start) no
+  refusal-by = rw own (refusal-first f old c start)
 
-  pub answer-frame : (no ≡ 0 → ⊥) → refused no c ≡ answer f c start
+  pub answer-frame : (no ≡ 0 → ⊥) → refused no c ≡ answer f old c start
   unfolding answer
   answer-frame h = rw (refusal-by, ne-eqb no 0 h, ne-eqb no 0 h)
 
@@ -60,16 +60,16 @@ module _ (f : Frame) (c : List ℕ) (start no : ℕ) (own : no ≡ frameRefusal 
         (take-at (wireBits f) (drop (0 + length (wireBits f)) blank) (length (wireBits f)) refl)
 
     module _ (misplaced : ℕ) (told : misplaced ≡ placeRefusal (pen .at) (length c) start) where
-      refusal-is : refusal f (length (wireBits f)) (length c) start ≡ misplaced
+      refusal-is : refusal f old (length (wireBits f)) (length c) start ≡ misplaced
       refusal-is = rw (refusal-by, eq-eqb no 0 z, ← measured) (sym told)
 
-      pub answer-misplaced : (misplaced ≡ 0 → ⊥) → refused misplaced c ≡ answer f c start
+      pub answer-misplaced : (misplaced ≡ 0 → ⊥) → refused misplaced c ≡ answer f old c start
       unfolding answer
       answer-misplaced h = rw (refusal-is, ne-eqb misplaced 0 h)
 
       pub answer-placed : (part : List ℕ) → misplaced ≡ 0
           → part ≡ sets (take (length c - start) (drop start c)) 0 (take (pen .at - 0) (drop 0 drawn))
-          → outcome (record { refusal = 0; bits = pen .at }) (take start c ++ (part ++ drop (length c - start) (drop start c))) ≡ answer f c start
+          → outcome (record { refusal = 0; bits = pen .at }) (take start c ++ (part ++ drop (length c - start) (drop start c))) ≡ answer f old c start
       unfolding answer
       answer-placed part n e =
           let inside = start-fits (pen .at) (length c) start misplaced told n in

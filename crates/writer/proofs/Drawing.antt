@@ -29,7 +29,7 @@ use Rattle.writer.specs.ImageLaws.{covered, sent-coded, ending-coded}
 
 -- THE HEAD
 
-module _ (f : Frame) (ok : frameRefusal f ≡ 0) (r : ℕ) (e : r ≡ rtr (f .remote)) (small : r ≤ 1) where
+module _ (f : Frame) (ok : frameRefusal f false ≡ 0) (r : ℕ) (e : r ≡ rtr (f .remote)) (small : r ≤ 1) where
   pub head-base : (i : BaseId) → f .ident ≡ Base i → bits 19 (i .0 * 128 + (r * 64 + f .code)) ≡ raw (headFields f)
   unfolding bits
   head-base i q =

@@ -15,7 +15,7 @@ use Rattle.writer.proofs.capture.write.Reads as write-reads
 -- `Learnt` is the call's own contract, as its callers learn it
 pub record Public : Type 0 where
   pub write : (κs : Lfts 1) (a : Dens κs write-kinds.ps) (x y : resT write-kinds.r κs .Denot) (s t : AtExit (endedOf 1 write-kinds.ps write-kinds.r) κs)
-      → write-reads.Learnt κs a x s → write-reads.Learnt κs a y t → (x ≡ y) × (now (s .1 .0) ≡ now (t .1 .0))
+      → write-reads.Learnt κs a x s → write-reads.Learnt κs a y t → (x ≡ y) × (now (s .1 .1 .0) ≡ now (t .1 .1 .0))
 
 one : {o : Outcome} {x y : Written} {c d : List ℕ} → outcome x c ≡ o → outcome y d ≡ o → (x ≡ y) × (c ≡ d)
 one p q = (ap (λ (o : Outcome). o .written) (p ∙ sym q), ap (λ (o : Outcome). o .capture) (p ∙ sym q))

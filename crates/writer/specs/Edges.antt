@@ -1,6 +1,7 @@
 -- Where an image just fits and where it just does not (01 "Samples to try"), for every frame that is not refused by itself.
 use Prim.Native.Nat.{ℕ, _+_, _-_, _≤_}
 use mathlib.Core.Path.{_≡_}
+use mathlib.Core.Bool.{Bool}
 use mathlib.Core.List.{List}
 use native.Mathlib.Omega.{arith}
 use lib.ListN.{length}
@@ -11,9 +12,9 @@ use Rattle.writer.specs.Writer.{wireBits}
 use Rattle.writer.specs.WriterLaws.{refusal-first}
 use Rattle.writer.specs.LengthLaws.{sent-some}
 
-module _ (f : Frame) (ok : frameRefusal f ≡ 0) (c : List ℕ) (start : ℕ) where
+module _ (f : Frame) (old : Bool) (ok : frameRefusal f old ≡ 0) (c : List ℕ) (start : ℕ) where
   abbrev given : ℕ
-  given = refusal f (length (wireBits f)) (length c) start
+  given = refusal f old (length (wireBits f)) (length c) start
 
   -- it ends where the capture ends
   pub just-fits : start + length (wireBits f) ≡ length c → given ≡ 0

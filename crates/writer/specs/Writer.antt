@@ -1,6 +1,6 @@
 -- What the writer answers, and what it leaves in the capture (01 "The wire image", "When the handset says no").
 use Prim.Native.Nat.{ℕ, _+_}
-use mathlib.Core.Bool.{false, cond}
+use mathlib.Core.Bool.{Bool, false, cond}
 use mathlib.Core.List.{List, _++_}
 use lib.Dec.{eqb}
 use lib.ListN.{length, take, drop}
@@ -37,8 +37,9 @@ placed image capture start =
     (record { refusal = 0; bits = length image })
     (take start capture ++ image ++ drop (start + length image) capture)
 
-unfoldable pub answer : Frame → List ℕ → ℕ → Outcome
-answer f capture start = answerBy (refusal f (length (wireBits f)) (length capture) start)
+-- of a frame, and whether "old controllers" is marked
+unfoldable pub answer : Frame → Bool → List ℕ → ℕ → Outcome
+answer f old capture start = answerBy (refusal f old (length (wireBits f)) (length capture) start)
   where
     answerBy : ℕ → Outcome
     answerBy n = cond (eqb n 0) (placed (wireBits f) capture start) (refused n capture)

@@ -11,38 +11,38 @@ use borrow.Author.Tests.{eq-eqb, ne-eqb, eqb-true, eqb-false}
 use Rattle.wire.specs.declared.frames.Frame.{Frame}
 use Rattle.writer.specs.declared.written.Written.{Written}
 use Rattle.refusals.specs.Refusals.{Row, frameRows, placeRows, frameRefusal, placeRefusal, refusal}
-use Rattle.refusals.specs.RefusalsLaws.{first-append, start-fits, bits-fit}
+use Rattle.refusals.specs.RefusalsLaws.{unmarked, first-append, start-fits, bits-fit}
 use Rattle.writer.specs.Writer.{wireBits, Outcome, outcome, refused, placed, answer}
 
-module _ (f : Frame) (c : List ℕ) (start : ℕ) where
+module _ (f : Frame) (old : Bool) (c : List ℕ) (start : ℕ) where
   -- every row that is tried
   abbrev pub rows : List Row
-  rows = frameRows f ++ placeRows (length (wireBits f)) (length c) start
+  rows = frameRows f old ++ placeRows (length (wireBits f)) (length c) start
 
   abbrev no : ℕ
-  no = refusal f (length (wireBits f)) (length c) start
+  no = refusal f old (length (wireBits f)) (length c) start
 
   -- by the frame's own refusal first
-  pub refusal-first : no ≡ cond (eqb (frameRefusal f) 0) (placeRefusal (length (wireBits f)) (length c) start) (frameRefusal f)
+  pub refusal-first : no ≡ cond (eqb (frameRefusal f old) 0) (placeRefusal (length (wireBits f)) (length c) start) (frameRefusal f old)
   unfolding refusal frameRefusal
-  refusal-first = first-append (frameRows f) (placeRows (length (wireBits f)) (length c) start) refl
+  refusal-first = first-append (frameRows f old) (placeRows (length (wireBits f)) (length c) start) refl
 
-  answer-refused : (no ≡ 0 → ⊥) → answer f c start ≡ refused no c
+  answer-refused : (no ≡ 0 → ⊥) → answer f old c start ≡ refused no c
   unfolding answer
   answer-refused h = rw (ne-eqb no 0 h)
 
-  answer-placed : no ≡ 0 → answer f c start ≡ placed (wireBits f) c start
+  answer-placed : no ≡ 0 → answer f old c start ≡ placed (wireBits f) c start
   unfolding answer
   answer-placed z = rw (eq-eqb no 0 z)
 
   -- not refused: neither by the frame itself nor by the place
-  free : no ≡ 0 → (frameRefusal f ≡ 0) × (placeRefusal (length (wireBits f)) (length c) start ≡ 0)
-  free z = go (eqb (frameRefusal f) 0) refl (sym refusal-first ∙ z)
+  free : no ≡ 0 → (frameRefusal f old ≡ 0) × (placeRefusal (length (wireBits f)) (length c) start ≡ 0)
+  free z = go (eqb (frameRefusal f old) 0) refl (sym refusal-first ∙ z)
     where
-      go : (t : Bool) → eqb (frameRefusal f) 0 ≡ t → cond t (placeRefusal (length (wireBits f)) (length c) start) (frameRefusal f) ≡ 0
-          → (frameRefusal f ≡ 0) × (placeRefusal (length (wireBits f)) (length c) start ≡ 0)
-      go true e q = (eqb-true (frameRefusal f) 0 e, q)
-      go false e q = absurd (eqb-false (frameRefusal f) 0 e q)
+      go : (t : Bool) → eqb (frameRefusal f old) 0 ≡ t → cond t (placeRefusal (length (wireBits f)) (length c) start) (frameRefusal f old) ≡ 0
+          → (frameRefusal f old ≡ 0) × (placeRefusal (length (wireBits f)) (length c) start ≡ 0)
+      go true e q = (eqb-true (frameRefusal f old) 0 e, q)
+      go false e q = absurd (eqb-false (frameRefusal f old) 0 e q)
 
 -- an image placed: what stands where
 module _ (v c : List ℕ) (start : ℕ) (h : start ≤ length c) where
@@ -79,22 +79,22 @@ module _ (v c : List ℕ) (start : ℕ) (h : start ≤ length c) where
 
 -- FROM THE CONTRACT
 
-module _ (f : Frame) (c c′ : List ℕ) (start : ℕ) (r : Written) (says : outcome r c′ ≡ answer f c start) where
+module _ (f : Frame) (old : Bool) (c c′ : List ℕ) (start : ℕ) (r : Written) (says : outcome r c′ ≡ answer f old c start) where
   -- the call gives the refusal that the rows give
-  pub refusal-given : r .refusal ≡ refusal f (length (wireBits f)) (length c) start
+  pub refusal-given : r .refusal ≡ refusal f old (length (wireBits f)) (length c) start
   refusal-given = go (eqb k 0) refl
     where
       k : ℕ
-      k = refusal f (length (wireBits f)) (length c) start
+      k = refusal f old (length (wireBits f)) (length c) start
 
       go : (t : Bool) → eqb k 0 ≡ t → r .refusal ≡ k
-      go true e = ap (λ (o : Outcome). o .written .refusal) (says ∙ answer-placed f c start (eqb-true k 0 e)) ∙ sym (eqb-true k 0 e)
-      go false e = ap (λ (o : Outcome). o .written .refusal) (says ∙ answer-refused f c start (eqb-false k 0 e))
+      go true e = ap (λ (o : Outcome). o .written .refusal) (says ∙ answer-placed f old c start (eqb-true k 0 e)) ∙ sym (eqb-true k 0 e)
+      go false e = ap (λ (o : Outcome). o .written .refusal) (says ∙ answer-refused f old c start (eqb-false k 0 e))
 
   -- refused: 0 bits, and no byte changes
   module _ (h : r .refusal ≡ 0 → ⊥) where
-    outcome-refused : outcome r c′ ≡ refused (refusal f (length (wireBits f)) (length c) start) c
-    outcome-refused = says ∙ answer-refused f c start (λ z. h (refusal-given ∙ z))
+    outcome-refused : outcome r c′ ≡ refused (refusal f old (length (wireBits f)) (length c) start) c
+    outcome-refused = says ∙ answer-refused f old c start (λ z. h (refusal-given ∙ z))
 
     pub refused-bits : r .bits ≡ 0
     refused-bits = ap (λ (o : Outcome). o .written .bits) outcome-refused
@@ -104,17 +104,17 @@ module _ (f : Frame) (c c′ : List ℕ) (start : ℕ) (r : Written) (says : out
 
   -- not refused: exactly the image's bytes changed, to the image's bits
   module _ (z : r .refusal ≡ 0) where
-    none : refusal f (length (wireBits f)) (length c) start ≡ 0
+    none : refusal f old (length (wireBits f)) (length c) start ≡ 0
     none = sym refusal-given ∙ z
 
-    pub frame-taken : frameRefusal f ≡ 0
-    frame-taken = free f c start none .0
+    pub frame-taken : frameRefusal f false ≡ 0
+    frame-taken = unmarked f old (free f old c start none .0)
 
     pub inside : start ≤ length c
-    inside = start-fits (length (wireBits f)) (length c) start _ refl (free f c start none .1)
+    inside = start-fits (length (wireBits f)) (length c) start _ refl (free f old c start none .1)
 
     outcome-placed : outcome r c′ ≡ placed (wireBits f) c start
-    outcome-placed = says ∙ answer-placed f c start none
+    outcome-placed = says ∙ answer-placed f old c start none
 
     pub capture-placed : c′ ≡ take start c ++ wireBits f ++ drop (start + length (wireBits f)) c
     capture-placed = ap (λ (o : Outcome). o .capture) outcome-placed
@@ -132,4 +132,4 @@ module _ (f : Frame) (c c′ : List ℕ) (start : ℕ) (r : Written) (says : out
     written-behind i l = ap (λ (d : List ℕ). getD d i 0) capture-placed ∙ placed-behind (wireBits f) c start inside i l
 
     pub written-length : length c′ ≡ length c
-    written-length = ap length capture-placed ∙ placed-length (wireBits f) c start inside (bits-fit (length (wireBits f)) (length c) start _ refl (free f c start none .1))
+    written-length = ap length capture-placed ∙ placed-length (wireBits f) c start inside (bits-fit (length (wireBits f)) (length c) start _ refl (free f old c start none .1))

@@ -25,11 +25,11 @@ fn copy_front(out: &mut [u8], image: &[u8])
     }
 }
 
-// The wire image of `frame` into `capture` from `start` on; or a refusal, and no byte changes.
-pub fn write(frame: Frame, capture: &mut [u8], start: usize) -> Written
-    ensures { λ r. ⌜ outcome r (now (capture .exit)) ≡ answer frame (now (capture .entry)) start ⌝ }
+// The wire image of `frame` into `capture` from `start` on; or a refusal, and no byte changes. `old` marks old controllers.
+pub fn write(frame: Frame, old: bool, capture: &mut [u8], start: usize) -> Written
+    ensures { λ r. ⌜ outcome r (now (capture .exit)) ≡ answer frame old (now (capture .entry)) start ⌝ }
 {
-    let no = frame_refusal(frame);
+    let no = frame_refusal(frame, old);
     if no != 0 {
         return Written {
             refusal: no,

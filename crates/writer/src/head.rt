@@ -2,6 +2,7 @@
 use wire::Frame;
 use wire::Ident;
 ghost use mathlib.Core.Path.{_≡_};
+ghost use mathlib.Core.Bool.{false};
 ghost use Prim.Native.Nat.{_≤_};
 ghost use Rattle.wire.specs.Bits.{bits};
 ghost use Rattle.wire.specs.Fields.{raw, rtr};
@@ -26,7 +27,7 @@ fn rtr(remote: bool) -> u64
 // Behind a base identifier, and behind the lower bits of an extended one, stand RTR, two bits 0 and the code; SRR and IDE, both 1, stand
 // between the upper and the lower bits.
 pub(crate) fn head(f: Frame) -> Field
-    requires { ⌜ frameRefusal f ≡ 0 ⌝ }
+    requires { ⌜ frameRefusal f false ≡ 0 ⌝ }
     ensures { λ r. ⌜ bits (r .width) (r .value) ≡ raw (headFields f) ⌝ }
 {
     let tail = rtr(f.remote) * 64 + f.code as u64;

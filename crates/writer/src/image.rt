@@ -6,6 +6,7 @@ use crate::pen::Pen;
 use wire::Frame;
 use wire::frames::carried;
 ghost use mathlib.Core.Path.{_≡_};
+ghost use mathlib.Core.Bool.{false};
 ghost use mathlib.Core.List.{_++_};
 ghost use Rattle.wire.specs.Bits.{bits};
 ghost use Rattle.wire.specs.Fields.{raw, dataFields};
@@ -23,7 +24,7 @@ fn framed(out: &mut [u8], head: Field, bytes: &[u8]) -> Pen
 
 // The image from the front of `out`; the pen then stands behind it.
 pub(crate) fn draw(f: Frame, out: &mut [u8]) -> Pen
-    requires { ⌜ frameRefusal f ≡ 0 ⌝ }
+    requires { ⌜ frameRefusal f false ≡ 0 ⌝ }
     ensures { λ r. ⌜ page (now (out .exit)) r ≡ marks (page (now (out .entry)) newPen) (wireBits f) ⌝ }
 {
     let head = head(f);

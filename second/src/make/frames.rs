@@ -24,11 +24,11 @@ fn ident(random: &mut Random, extended: bool) -> u32 {
     }
 }
 
-/// A frame that can stand on a wire, with a code below this limit and as many bytes as it says.
-pub fn frame(random: &mut Random, codes: usize) -> Frame {
+/// A frame that can stand on a wire, with any code and as many bytes as it says.
+pub fn frame(random: &mut Random) -> Frame {
     let extended = random.percent(50);
     let remote = random.percent(20);
-    let code = random.below(codes) as u32;
+    let code = random.below(16) as u32;
     let count = if remote { 0 } else { code.min(8) };
     let data = (0..count).map(|_| byte(random)).collect();
     Frame { extended, ident: ident(random, extended), remote, code, data }
@@ -42,16 +42,22 @@ pub fn fd_frame(random: &mut Random) -> fd::Frame {
     fd::Frame { extended, ident: ident(random, extended), brs, esi, code, data }
 }
 
-/// A line whose frame a writer refuses, for one reason or for several.
+/// An identifier that base frames have and old controllers do not take, or one right below those.
+fn near_old(random: &mut Random) -> u32 {
+    let any = 2_032 + random.below(16) as u32;
+    random.pick(&[2_031, 2_032, 2_047, any])
+}
+
+/// A line whose frame a writer refuses, for one reason or for several; some only where old controllers are marked.
 fn refused(random: &mut Random) -> String {
-    let mut frame = frame(random, 9);
+    let mut frame = frame(random);
     let reasons = random.pick(&[1, 2, 4, 4, 4, 3, 5, 6, 7]);
+    if reasons & 2 != 0 {
+        frame.ident = near_old(random);
+    }
     if reasons & 1 != 0 {
         let (lowest, others) = if frame.extended { (0x2000_0000, 0xE000_0000) } else { (0x800, 0x800) };
         frame.ident = lowest + if random.percent(30) { 0 } else { random.below(others) as u32 };
-    }
-    if reasons & 2 != 0 {
-        frame.code = 9 + random.below(7) as u32;
     }
     if reasons & 4 != 0 {
         let count = random.below(9);
@@ -67,7 +73,7 @@ fn refused(random: &mut Random) -> String {
 
 /// A line with a letter or a few changed, so that it seldom reads, and sometimes reads as another frame.
 fn damaged(random: &mut Random) -> String {
-    let mut line = notation::show(&frame(random, 16)).into_bytes();
+    let mut line = notation::show(&frame(random)).into_bytes();
     for _ in 0..1 + random.below(3) {
         let at = random.below(line.len().max(1)).min(line.len());
         let other = random.pick(b"0F9afgR#._-+ x\t\0r/:@G`\x7F");
@@ -85,7 +91,7 @@ fn odd(random: &mut Random) -> String {
     let digits = "0123456789abcdefABCDEF".repeat(3);
     let any = random.below(digits.len());
     let count = random.pick(&[any, 15, 16, 17, 18]);
-    match random.below(9) {
+    match random.below(10) {
         0 => String::new(),
         1 => format!("123#{}{}", &digits[..count], random.pick(&["", "_8"])),
         2 => format!("{}#11", &digits[..count]),
@@ -94,21 +100,24 @@ fn odd(random: &mut Random) -> String {
         5 => "1".repeat(random.below(9000)),
         6 => format!("123#{}é", &digits[..count % 20]),
         7 => format!("123#R8.{}", &digits[..count]),
+        8 => random.pick(&["old", "old ", "old  on", "OLD ON", "old on ", " old off", "old of", "oldon"]).to_string(),
         _ => {
             random.pick(&["#", "123", "12#", "1234#", "1234567#", "123456789#", " 123#", "123# ", "123##"]).to_string()
         }
     }
 }
 
-/// As many frames that a writer takes, a line for each, with other lines among them; the last line may have no end.
+/// As many frames that a writer takes, but for old controllers, a line for each, with other lines among them; the last line may have
+/// no end.
 pub fn lines(random: &mut Random, count: usize) -> Vec<u8> {
     let mut text = String::new();
     let mut frames = 0;
     while frames < count {
         let line = match random.below(100) {
-            0..=74 => {
+            0..=1 => random.pick(&["old on", "old off"]).to_string(),
+            2..=74 => {
                 frames += 1;
-                notation::show(&frame(random, 9))
+                notation::show(&frame(random))
             }
             75..=87 => refused(random),
             88..=94 => damaged(random),

@@ -7,7 +7,7 @@ use crate::{fd, wire};
 /// A plain text of any code, with any noted bits that its kind has, whose stuffed part ends so.
 fn text_that_ends(random: &mut Random, end: &str) -> String {
     loop {
-        let frame = frame(random, 16);
+        let frame = frame(random);
         let noted = if frame.extended { random.pick(&[1, 4, 5]) } else { 0 };
         let text = wire::plain(&frame, if random.percent(60) { 0 } else { noted });
         if wire::image(&text, '1').ends_with(&format!("{end}1111111111")) {

@@ -38,7 +38,7 @@ returns c =
     let readied = c .before .before .before .before in
     let wrote = readied .before .before .before in
     let entry = wrote .before .before .before in
-    back-handed _ _ _ _ _ (wrote .write .ensures) (c .before .before .if1 .taken) (eight-bytes entry) _ _ (readied .ready-listener .ensures) (c .next .ensures)
+    back-handed _ _ _ _ _ _ (wrote .write .ensures) (c .before .before .if1 .taken) (eight-bytes entry) _ _ (readied .ready-listener .ensures) (c .next .ensures)
 
 same-length-2 : tie.Need-same-length-2
 same-length-2 c = search needs
@@ -47,7 +47,7 @@ returns-2 : tie.Need-returns-2
 returns-2 c =
     let readied = c .before .before .before .before in
     let wrote = readied .before .before .before in
-    back-refused _ _ _ _ _ (wrote .write .ensures) (c .before .before .if1 .left) _ _ _ (readied .ready-listener .ensures) (c .before .refused .ensures) (c .found .ensures)
+    back-refused _ _ _ _ _ _ (wrote .write .ensures) (c .before .before .if1 .left) _ _ _ (readied .ready-listener .ensures) (c .before .refused .ensures) (c .found .ensures)
 
 pub read-back-spec : {M : Type 1} → statement M
 read-back-spec =

@@ -6,10 +6,10 @@ use Rattle.put.proofs.lines.answer_all.Statement.{statement}
 use Rattle.put.proofs.lines.answer_all.Tie as tie
 
 abbrev Inv-loop : tie.InvT-loop
-Inv-loop line₀ came₀ turns₀ line came turns = length line ≡ 64
+Inv-loop line₀ so-far₀ turns₀ line so-far turns = length line ≡ 64
 
 abbrev μ-loop : tie.MeasureT-loop
-μ-loop line₀ came₀ turns₀ line came turns = turns
+μ-loop line₀ so-far₀ turns₀ line so-far turns = turns
 
 loop-holds : tie.Need-loop-holds Inv-loop μ-loop
 loop-holds c = search needs

@@ -7,10 +7,10 @@ use Rattle.put.proofs.lines.take_all.Statement.{statement}
 use Rattle.put.proofs.lines.take_all.Tie as tie
 
 abbrev Inv-loop : tie.InvT-loop
-Inv-loop line₀ came piece so-far₀ k₀ line so-far k = length line ≡ length line₀
+Inv-loop line₀ piece so-far₀ k₀ line so-far k = length line ≡ length line₀
 
 abbrev μ-loop : tie.MeasureT-loop
-μ-loop line₀ came piece so-far₀ k₀ line so-far k = length piece - k
+μ-loop line₀ piece so-far₀ k₀ line so-far k = length piece - k
 
 loop-holds : tie.Need-loop-holds Inv-loop μ-loop
 loop-holds c = search needs

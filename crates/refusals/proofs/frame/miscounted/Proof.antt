@@ -1,13 +1,13 @@
--- By the remote mark.
-use Rattle.proving.specs.Tests.{tests}
+-- The count is compared with what the frame carries.
+use borrow.Author.Needs.{needs}
 use Rattle.refusals.proofs.frame.miscounted.Statement.{statement}
 use Rattle.refusals.proofs.frame.miscounted.Tie as tie
 
-returns : tie.Need-returns
-returns c = rw (c .if1 .taken) (search tests)
+carried-requires : tie.Need-carried-requires
+carried-requires c κs = search needs
 
-returns-2 : tie.Need-returns-2
-returns-2 c = rw (c .if1 .left) (search tests)
+returns : tie.Need-returns
+returns c = rw (c .carried .ensures)
 
 pub miscounted-spec : {M : Type 1} → statement M
-miscounted-spec = tie.close (tie.spec returns returns-2)
+miscounted-spec = tie.close (tie.spec carried-requires returns)

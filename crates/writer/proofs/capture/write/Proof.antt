@@ -1,7 +1,8 @@
 -- Each branch is one law of `Answers`; the last is given its facts by hand, since a search over all of them takes too long.
+use mathlib.Core.Path.{sym, _∙_}
 use lib.ListN.{length}
 use borrow.Author.Needs.{needs}
-use Rattle.refusals.specs.RefusalsLaws.{start-fits, bits-fit}
+use Rattle.refusals.specs.RefusalsLaws.{unmarked, start-fits, bits-fit}
 use Rattle.writer.proofs.Answers.{answer-frame, answer-misplaced, answer-placed, fits-local}
 use Rattle.writer.proofs.capture.write.Statement.{statement}
 use Rattle.writer.proofs.capture.write.Tie as tie
@@ -16,7 +17,7 @@ slice-aggregate-draw : tie.Need-slice-aggregate-draw
 slice-aggregate-draw c = search needs
 
 draw-requires : tie.Need-draw-requires
-draw-requires c κs = search needs
+draw-requires c κs = unmarked _ _ (sym (c .before .before .frame-refusal .ensures) ∙ c .before .if1 .left)
 
 place-refusal-requires : tie.Need-place-refusal-requires
 place-refusal-requires c κs = search needs
@@ -62,6 +63,7 @@ returns-3 c =
     let entry = asked .before .before in
     answer-placed
     (entry .args .frame)
+    (entry .args .old)
     (entry .args .capture .now)
     (entry .args .start)
     (asked .frame-refusal .result)

@@ -1,10 +1,11 @@
-// The frames found by search whose CRC ends in five equal bits, so that a stuff bit stands behind its last bit: written, and what the
-// writer wrote read back.
+// Frames that are written, and what the writer wrote read back: those found by search whose CRC ends in five equal bits, so that a stuff
+// bit stands behind its last bit; and one whose length code is above 8.
 use crate::frames::base_data;
 use crate::hearing::Hearing;
 use crate::images::BLANK;
 use crate::images::IMAGE_009;
 use crate::images::IMAGE_017;
+use crate::images::IMAGE_CODE_12;
 use crate::images::LONGEST;
 use crate::tally::Tally;
 use crate::words::Words;
@@ -42,7 +43,7 @@ fn heard(samples: &[u8], n: usize) -> Words {
 
 fn written_and_read(tally: Tally, name: &[u8], frame: Frame, image: &[u8], read: &[u8]) -> Tally {
     let mut capture = [BLANK; LONGEST];
-    let bits = writer::write(frame, &mut capture, 0).bits;
+    let bits = writer::write(frame, false, &mut capture, 0).bits;
     tally
         .sample(name, letters(&capture, bits), image)
         .sample(b"read that image back", heard(&capture, bits), read)
@@ -65,5 +66,16 @@ pub(crate) fn ends_recessive(tally: Tally) -> Tally {
         base_data(0x017, 0, 0),
         &IMAGE_017,
         b"base data frame 017, code 0, no bytes",
+    )
+}
+
+// W-207: code 12 means 8 bytes, and stays 12.
+pub(crate) fn code_12(tally: Tally) -> Tally {
+    written_and_read(
+        tally,
+        b"write a frame with length code 12 and 8 bytes",
+        base_data(0x123, 12, 8),
+        &IMAGE_CODE_12,
+        b"base data frame 123, code 12, 8 bytes 1122334455667788",
     )
 }

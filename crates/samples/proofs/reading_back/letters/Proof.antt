@@ -2,8 +2,8 @@
 use Prim.Native.Nat.{_≤_, _-_}
 use lib.ListN.{length}
 use borrow.Author.Needs.{needs}
-use Rattle.samples.proofs.searched.letters.Statement.{statement}
-use Rattle.samples.proofs.searched.letters.Tie as tie
+use Rattle.samples.proofs.reading_back.letters.Statement.{statement}
+use Rattle.samples.proofs.reading_back.letters.Tie as tie
 
 abbrev Inv-loop : tie.InvT-loop
 Inv-loop samples n words₀ i₀ words i = i ≤ length samples
