@@ -26,7 +26,7 @@ pub mod LedgerRun
 pub mod LedgerSplit
 pub mod LedgerKept
 pub mod LedgerPinned
-pub mod Old
+pub mod OldControllers
 pub mod WriterKept
 pub mod Samples
 pub mod Kept

@@ -5,7 +5,7 @@ pub mod Lines
 pub mod Newer
 pub mod Histories
 pub mod Sixteen
-pub mod Old
+pub mod OldControllers
 pub mod ReadBack
 pub mod LedgerHistory
 pub mod LedgerSamples

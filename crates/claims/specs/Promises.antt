@@ -28,7 +28,7 @@ use Rattle.ledger.specs.Answer.{inRange, accepted, after}
 use Rattle.ledger.specs.History.{afterAll}
 use Rattle.claims.specs.declared.ledger_history.Standing.{Standing}
 use Rattle.claims.specs.Numbers.{settling}
-use Rattle.claims.specs.Old.{Barred, upperSeven}
+use Rattle.claims.specs.OldControllers.{Barred, upperSeven}
 use Rattle.claims.specs.Answers.{handed, refused, said}
 use Rattle.claims.specs.Table.{waiting}
 use Rattle.claims.specs.Lines.{recessive, Piece, lineOf, Line, reply, repliesTo, CameFrom}

@@ -83,9 +83,9 @@ barred-unmarked (Base i) = refl
 barred-unmarked (Extended i) = refl
 
 -- and so a frame that is not refused under a mark is not refused without it
-pub unmarked : (f : Frame) (old : Bool) → frameRefusal f old ≡ 0 → frameRefusal f false ≡ 0
+pub taken-unmarked : (f : Frame) (old : Bool) → frameRefusal f old ≡ 0 → frameRefusal f false ≡ 0
 unfolding frameRefusal
-unmarked f old ok =
+taken-unmarked f old ok =
     let none = none-exactly (frameRows f old) refl .0 ok in
     none-exactly (frameRows f false) refl .1 (none .0, (barred-unmarked (f .ident), none .1 .1))
 

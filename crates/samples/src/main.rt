@@ -27,7 +27,7 @@ fn main() {
     let t = counting::asking(t);
     let t = reading_back::code_12(t);
     let t = writing::codes_to_15(t);
-    let t = writing::old_identifiers(t);
-    let t = writing::old_frames(t);
+    let t = writing::identifiers_for_old(t);
+    let t = writing::frames_for_old(t);
     t.print();
 }

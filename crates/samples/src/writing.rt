@@ -134,7 +134,7 @@ pub(crate) fn codes_to_15(tally: Tally) -> Tally {
 }
 
 // W-207: the base identifiers that old controllers take, and those that they do not.
-pub(crate) fn old_identifiers(tally: Tally) -> Tally {
+pub(crate) fn identifiers_for_old(tally: Tally) -> Tally {
     tally
         .sample(
             b"write identifier 2,031 for old controllers",
@@ -159,7 +159,7 @@ pub(crate) fn old_identifiers(tally: Tally) -> Tally {
 }
 
 // W-207: 8 comes before 2, and is for remote frames too, and for base frames alone.
-pub(crate) fn old_frames(tally: Tally) -> Tally {
+pub(crate) fn frames_for_old(tally: Tally) -> Tally {
     tally
         .sample(
             b"write identifier 2,032 with length code 16 for old controllers",

@@ -9,7 +9,7 @@ use borrow.Author.Tests.{eqb-true}
 use Rattle.wire.specs.declared.frames.Frame.{Frame}
 use Rattle.wire.specs.Fields.{carriedBytes}
 use Rattle.refusals.specs.Refusals.{frameRefusal, refusal}
-use Rattle.refusals.specs.RefusalsLaws.{unmarked, count-fits}
+use Rattle.refusals.specs.RefusalsLaws.{taken-unmarked, count-fits}
 use Rattle.writer.specs.Writer.{wireBits, answer}
 use Rattle.writer.specs.WriterLaws.{refusal-first}
 
@@ -21,7 +21,7 @@ module _ (f : Frame) (old : Bool) (bytes : List ℕ) (same : take (f .count) byt
   same-bits : frameRefusal f old ≡ 0 → wireBits others ≡ wireBits f
   unfolding wireBits
   same-bits ok =
-      let e : carriedBytes others ≡ carriedBytes f = rw (count-fits f (unmarked f old ok)) same in
+      let e : carriedBytes others ≡ carriedBytes f = rw (count-fits f (taken-unmarked f old ok)) same in
       rw e
 
   same-answer : (c : List ℕ) (start : ℕ) → wireBits others ≡ wireBits f → answer others old c start ≡ answer f old c start

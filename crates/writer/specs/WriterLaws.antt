@@ -11,7 +11,7 @@ use borrow.Author.Tests.{eq-eqb, ne-eqb, eqb-true, eqb-false}
 use Rattle.wire.specs.declared.frames.Frame.{Frame}
 use Rattle.writer.specs.declared.written.Written.{Written}
 use Rattle.refusals.specs.Refusals.{Row, frameRows, placeRows, frameRefusal, placeRefusal, refusal}
-use Rattle.refusals.specs.RefusalsLaws.{unmarked, first-append, start-fits, bits-fit}
+use Rattle.refusals.specs.RefusalsLaws.{taken-unmarked, first-append, start-fits, bits-fit}
 use Rattle.writer.specs.Writer.{wireBits, Outcome, outcome, refused, placed, answer}
 
 module _ (f : Frame) (old : Bool) (c : List ℕ) (start : ℕ) where
@@ -108,7 +108,7 @@ module _ (f : Frame) (old : Bool) (c c′ : List ℕ) (start : ℕ) (r : Written
     none = sym refusal-given ∙ z
 
     pub frame-taken : frameRefusal f false ≡ 0
-    frame-taken = unmarked f old (free f old c start none .0)
+    frame-taken = taken-unmarked f old (free f old c start none .0)
 
     pub inside : start ≤ length c
     inside = start-fits (length (wireBits f)) (length c) start _ refl (free f old c start none .1)

@@ -2,7 +2,7 @@
 use mathlib.Core.Path.{sym, _∙_}
 use lib.ListN.{length}
 use borrow.Author.Needs.{needs}
-use Rattle.refusals.specs.RefusalsLaws.{unmarked, start-fits, bits-fit}
+use Rattle.refusals.specs.RefusalsLaws.{taken-unmarked, start-fits, bits-fit}
 use Rattle.writer.proofs.Answers.{answer-frame, answer-misplaced, answer-placed, fits-local}
 use Rattle.writer.proofs.capture.write.Statement.{statement}
 use Rattle.writer.proofs.capture.write.Tie as tie
@@ -17,7 +17,7 @@ slice-aggregate-draw : tie.Need-slice-aggregate-draw
 slice-aggregate-draw c = search needs
 
 draw-requires : tie.Need-draw-requires
-draw-requires c κs = unmarked _ _ (sym (c .before .before .frame-refusal .ensures) ∙ c .before .if1 .left)
+draw-requires c κs = taken-unmarked _ _ (sym (c .before .before .frame-refusal .ensures) ∙ c .before .if1 .left)
 
 place-refusal-requires : tie.Need-place-refusal-requires
 place-refusal-requires c κs = search needs

@@ -21,7 +21,7 @@ use Rattle.writer.specs.declared.written.Written.{Written}
 use Rattle.writer.specs.Exactly.{call-exactly}
 use Rattle.writer.specs.Writer.{outcome, answer}
 use Rattle.claims.specs.Lines.{recessive}
-use Rattle.claims.specs.Old.{Barred, upperSeven}
+use Rattle.claims.specs.OldControllers.{Barred, upperSeven}
 
 -- THE IDENTIFIERS
 
