@@ -20,6 +20,7 @@ use Rattle.refusals.specs.RefusalsLaws.{None, barred-unmarked}
 use Rattle.writer.specs.declared.written.Written.{Written}
 use Rattle.writer.specs.Exactly.{call-exactly}
 use Rattle.writer.specs.Writer.{outcome, answer}
+use Rattle.claims.specs.Numbers.{upperBits}
 use Rattle.claims.specs.Lines.{recessive}
 use Rattle.claims.specs.OldControllers.{Barred, upperSeven}
 
@@ -33,20 +34,20 @@ barred-exactly true (Base i) = (
 barred-exactly false (Base i) = (λ p. absurd (false≢true (p .1)), λ q. absurd (false≢true (q .0)))
 barred-exactly old (Extended i) = (λ p. absurd (false≢true (p .1)), λ q. absurd (q .1))
 
-upper : (i : ℕ) → upperSeven i ≡ bits 7 (i / 16)
+upper : (i : ℕ) → upperSeven i ≡ bits upperBits (i / 16)
 upper i =
     let e : i / 16 * 2 ^ 4 + i % 16 ≡ i = omega arith in
     ap upperSeven (sym e)
     ∙ ap (take 7) (bits-append 7 4 (i / 16) (i % 16) (omega arith))
     ∙ take-at (bits 7 (i / 16)) (bits 4 (i % 16)) 7 (length-bits 7 (i / 16))
 
-all-seven : bits 7 127 ≡ recessive 7
+all-seven : bits upperBits 127 ≡ recessive upperBits
 unfolding bits
 all-seven = refl
 
-pub upper-seven : (i : ℕ) → i ≤ highestBase → (highestOld < i) ↔ (upperSeven i ≡ recessive 7)
+pub upper-seven : (i : ℕ) → i ≤ highestBase → (highestOld < i) ↔ (upperSeven i ≡ recessive upperBits)
 upper-seven i h = (
-  λ l. let q : i / 16 ≡ 127 = omega arith in upper i ∙ ap (bits 7) q ∙ all-seven,
+  λ l. let q : i / 16 ≡ 127 = omega arith in upper i ∙ ap (bits upperBits) q ∙ all-seven,
   λ e. let q : i / 16 ≡ 127 = sym (number-bits 7 (i / 16) (omega arith)) ∙ ap number (sym (upper i) ∙ e) in omega arith,
 )
 

@@ -6,6 +6,7 @@ use Rattle.wire.specs.declared.idents.Ident.{Ident}
 use Rattle.wire.specs.declared.idents.Ident.the-variants.{Base, Extended}
 use Rattle.wire.specs.Numbers.{baseWidth, highestBase, highestOld}
 use Rattle.wire.specs.Bits.{bits}
+use Rattle.claims.specs.Numbers.{upperBits}
 
 -- base identifiers 2,032 to 2,047
 abbrev pub Barred : Ident → Type 0
@@ -14,4 +15,4 @@ Barred (Extended i) = ⊥
 
 -- the upper seven bits of a base identifier
 abbrev pub upperSeven : ℕ → List ℕ
-upperSeven i = take 7 (bits baseWidth i)
+upperSeven i = take upperBits (bits baseWidth i)

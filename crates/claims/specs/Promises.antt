@@ -27,7 +27,7 @@ use Rattle.ledger.specs.Rules.{ledger, new, stateOf}
 use Rattle.ledger.specs.Answer.{inRange, accepted, after}
 use Rattle.ledger.specs.History.{afterAll}
 use Rattle.claims.specs.declared.ledger_history.Standing.{Standing}
-use Rattle.claims.specs.Numbers.{settling}
+use Rattle.claims.specs.Numbers.{settling, upperBits}
 use Rattle.claims.specs.OldControllers.{Barred, upperSeven}
 use Rattle.claims.specs.Answers.{handed, refused, said}
 use Rattle.claims.specs.Table.{waiting}
@@ -59,7 +59,7 @@ pub record WriterPromises : Type 0 where
   pub eight : (f : Frame) (old : Bool) (c c′ : List ℕ) (start : ℕ) (w : Written) → outcome w c′ ≡ answer f old c start
       → (w .refusal ≡ 8) ↔ ((old ≡ true) × Barred (f .ident))
   -- these are the base identifiers "whose upper seven bits are all recessive"
-  pub upper-seven : (i : ℕ) → i ≤ highestBase → (highestOld < i) ↔ (upperSeven i ≡ recessive 7)
+  pub upper-seven : (i : ℕ) → i ≤ highestBase → (highestOld < i) ↔ (upperSeven i ≡ recessive upperBits)
   -- and else the mark changes nothing
   pub but-for-eight : (f : Frame) (old : Bool) (c c′ : List ℕ) (start : ℕ) (w : Written) → outcome w c′ ≡ answer f old c start → (w .refusal ≡ 8 → ⊥)
       → outcome w c′ ≡ answer f false c start
