@@ -1,4 +1,6 @@
 // The promises: the demands as statements in specs/Promises.antt, kept in proofs/, and the functions whose contracts are promises.
+#![tactic(auto)]
+
 mod ledger_history;
 mod reads_back;
 

@@ -1,6 +1,8 @@
 // Keeps the ledger of a station that was new over the event digits on standard input (`0` to `9`, and `a` for a recovery asked for), and
 // prints it after each: `T R groups STATE`, with STATE `active`, `passive` or `off`. Space, tab, CR and LF are skipped; any other character
 // is answered `not an event`.
+#![tactic(auto)]
+
 use ledger::{Ledger, State};
 use libc::{STDIN_FILENO, STDOUT_FILENO};
 

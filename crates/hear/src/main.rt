@@ -1,4 +1,6 @@
 // Program: a capture of any length on standard input, and a line for each answer of the listener but "nothing".
+#![tactic(auto)]
+
 mod lines;
 mod samples;
 mod text;

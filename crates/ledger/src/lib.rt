@@ -1,4 +1,6 @@
 // The fault ledger: a station's two error counts, kept by document 01's rules for any history of events.
+#![tactic(auto)]
+
 mod calls;
 mod event;
 mod history;

@@ -1,4 +1,6 @@
 // The core of whoever follows a line: where it stands after each sample, and what a sample asks for.
+#![tactic(auto)]
+
 pub mod cores;
 pub mod inframe;
 

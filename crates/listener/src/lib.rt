@@ -1,4 +1,6 @@
 // The listener: one sampled bit at a time, and the same over a lent capture. It drives nothing.
+#![tactic(auto)]
+
 pub mod answers;
 mod bytes;
 pub mod listeners;

@@ -1,4 +1,6 @@
 // Document 01's table, place by place: which move a sample asks of whoever follows the line.
+#![tactic(auto)]
+
 pub mod moves;
 pub mod places;
 

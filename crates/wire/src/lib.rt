@@ -1,5 +1,7 @@
 // The wire: what a frame is, and the rules by which its bits are numbered, checked and stuffed.
 // The rules stand in specs/; here are the types they speak of and the leaf code that follows them.
+#![tactic(auto)]
+
 pub mod bits;
 pub mod crc;
 pub mod frames;

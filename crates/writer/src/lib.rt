@@ -1,4 +1,6 @@
 // The writer: turns a frame into wire bits in a lent capture, or refuses it by number.
+#![tactic(auto)]
+
 mod capture;
 mod coding;
 mod draft;
