@@ -11,10 +11,10 @@ use borrow.Author.Tests.{ltb-true, ltb-false, le-ltb, le-leb, lt-leb}
 use Rattle.wire.specs.declared.runs.Run.{Run}
 use Rattle.wire.specs.Numbers.{five, idle, room}
 use Rattle.wire.specs.Stuffing.{none, ran, ran_from}
-use Rattle.wire.specs.StuffingLaws.{ran-append, unstuff-append}
+use Rattle.wire.proofs.StuffingLaws.{ran-append, unstuff-append}
 use Rattle.wire.specs.Unstuffing.{unstuff_from}
 use Rattle.wire.specs.Layout.{Layout, done, part, newer, is_newer, Got}
-use Rattle.wire.specs.LayoutLaws.{Open, open_part}
+use Rattle.wire.proofs.LayoutLaws.{Open, open_part}
 use Rattle.reader.specs.Reader.{is_done, is_fdf, took_of}
 use Rattle.moves.specs.declared.places.Place.{Place}
 use Rattle.moves.specs.declared.places.Place.TheVariants.{Waiting, Ready, Stuffed, AckSlot, AckDelimiter, EndOfFrame, Intermission}

@@ -9,11 +9,11 @@ use lib.ListN.{take}
 use borrow.Author.Tests.{ltb-true}
 use Rattle.wire.specs.declared.idents.Ident.{Ident}
 use Rattle.wire.specs.declared.frames.Received.{Received}
-use Rattle.wire.specs.BitsLaws.{AllBits, all_bits-append}
-use Rattle.wire.specs.StuffingLaws.{stuff_bits}
+use Rattle.wire.proofs.BitsLaws.{AllBits, all_bits-append}
+use Rattle.wire.proofs.StuffingLaws.{stuff_bits}
 use Rattle.wire.specs.Fields.{raw, before_fdf}
-use Rattle.wire.specs.FieldsLaws.{raw-bits}
-use Rattle.wire.specs.ImageLaws.{begun, image-bits}
+use Rattle.wire.proofs.FieldsLaws.{raw-bits}
+use Rattle.wire.proofs.ImageLaws.{begun, image-bits}
 use Rattle.wire.specs.Image.{image}
 use Rattle.wire.specs.Legal.{IdentIn, Legal}
 use Rattle.moves.specs.declared.places.Place.{Place}

@@ -11,16 +11,16 @@ use lib.Seq.{take_at, take-append_seam}
 use borrow.Author.Tests.{eqb-true, eqb-false}
 use Rattle.wire.specs.declared.frames.Received.{Received}
 use Rattle.wire.specs.Numbers.{room}
-use Rattle.wire.specs.BitsLaws.{AllBits}
+use Rattle.wire.proofs.BitsLaws.{AllBits}
 use Rattle.wire.specs.Stuffing.{stuff_from}
 use Rattle.wire.specs.Crc.{crc}
 use Rattle.wire.specs.Fields.{raw, header, carried, data_fields}
 use Rattle.wire.specs.Image.{start_of_frame, slot, image}
-use Rattle.wire.specs.FieldsLaws.{carried-le}
-use Rattle.wire.specs.ImageLaws.{got_of, begun, image_parts}
+use Rattle.wire.proofs.FieldsLaws.{carried-le}
+use Rattle.wire.proofs.ImageLaws.{got_of, begun, image_parts}
 use Rattle.wire.specs.Legal.{Legal}
 use Rattle.wire.specs.Layout.{Got}
-use Rattle.wire.specs.FramesLaws.{got_fields, GotIn}
+use Rattle.wire.proofs.FramesLaws.{got_fields, GotIn}
 use Rattle.claims.specs.Answers.{Said, nothing, handed, stuff_error, form_error, crc_error, overload, newer_format, refused}
 use Rattle.claims.specs.Table.{Where, waiting, ready, stuffed, crc_delimiter, ack_slot, ack_delimiter, end_of_frame, intermission, Row, sixth, newer_begun, checks, received_from, row}
 use Rattle.claims.specs.Numbers.{quiet}

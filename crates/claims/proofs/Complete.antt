@@ -12,15 +12,15 @@ use Rattle.wire.specs.declared.runs.Run.{Run}
 use Rattle.wire.specs.declared.frames.Received.{Received}
 use Rattle.wire.specs.Numbers.{five}
 use Rattle.wire.specs.Stuffing.{none, ran_from, wire, opposite, sends, stuff_from}
-use Rattle.wire.specs.StuffingLaws.{dyn, ran-append, stuff-append, unstuff-append, unstuff_stuff, unstuff_sends, past, stuff-cons, opposite_differs}
+use Rattle.wire.proofs.StuffingLaws.{dyn, ran-append, stuff-append, unstuff-append, unstuff_stuff, unstuff_sends, past, stuff-cons, opposite_differs}
 use Rattle.wire.specs.Unstuffing.{unstuff_from}
 use Rattle.wire.specs.Layout.{done, is_newer, Walker, enter, takes, Got, frames}
-use Rattle.wire.specs.LayoutLaws.{Open, Alive, takes-append}
+use Rattle.wire.proofs.LayoutLaws.{Open, Alive, takes-append}
 use Rattle.wire.specs.Fields.{raw}
 use Rattle.wire.specs.Image.{slot, image}
-use Rattle.wire.specs.ImageLaws.{got_of, closing, stuffed_bits, begun, image_parts, read_back}
+use Rattle.wire.proofs.ImageLaws.{got_of, closing, stuffed_bits, begun, image_parts, read_back}
 use Rattle.wire.specs.Legal.{Legal}
-use Rattle.wire.specs.FramesLaws.{got_fields}
+use Rattle.wire.proofs.FramesLaws.{got_fields}
 use Rattle.claims.specs.Answers.{Said, nothing, handed}
 use Rattle.claims.specs.Table.{Where, ready, stuffed, crc_delimiter, ack_slot, intermission, reading, newer_begun, onward, sixth, checks, received_from, where_from, says_from}
 use Rattle.claims.specs.Lines.{silent_for, reply}

@@ -13,7 +13,7 @@ use borrow.Author.Tests.{lt-ltb, le-ltb, eqb-true, eqb-false}
 use Rattle.wire.specs.Numbers.{room, srr_noted, r0_noted, base_width, lower_width, crc_width}
 use Rattle.wire.specs.Stuffing.{opposite}
 use Rattle.wire.specs.Fields.{noted_sum, joined, carried}
-use Rattle.wire.specs.FieldsLaws.{carried-le}
+use Rattle.wire.proofs.FieldsLaws.{carried-le}
 use Rattle.wire.specs.Layout.{Layout, done, part, newer, Got, bytes_of, rest_of, fdf_then, base_rest, extended_rest, frames}
 use Rattle.wire.specs.declared.idents.Ident.{Ident}
 use Rattle.wire.specs.declared.idents.Ident.TheVariants.{Base, Extended}

@@ -9,13 +9,13 @@ use lib.ListN.{length, get_or, take, drop, replicate, length-append, length-repl
 use lib.Seq.{get_or-drop}
 use Rattle.wire.specs.declared.frames.Received.{Received}
 use Rattle.wire.specs.Numbers.{room, crc_width, crc_generator, crc_start}
-use Rattle.wire.specs.CrcLaws.{crc-lt}
+use Rattle.wire.proofs.CrcLaws.{crc-lt}
 use Rattle.wire.specs.Fields.{raw, carried, carried_bytes}
 use Rattle.wire.specs.Image.{body, slot}
-use Rattle.wire.specs.FieldsLaws.{carried-le}
-use Rattle.wire.specs.ImageLaws.{got_of}
+use Rattle.wire.proofs.FieldsLaws.{carried-le}
+use Rattle.wire.proofs.ImageLaws.{got_of}
 use Rattle.wire.specs.Legal.{Stored, Legal}
-use Rattle.wire.specs.FramesLaws.{GotIn, AllBytes}
+use Rattle.wire.proofs.FramesLaws.{GotIn, AllBytes}
 use Rattle.claims.specs.Table.{received_from}
 
 -- BYTES

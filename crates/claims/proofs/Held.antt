@@ -9,13 +9,13 @@ use lib.ListN.{length, take, length-append, length-take}
 use lib.Seq.{take-append_seam}
 use Rattle.wire.specs.Numbers.{room, code_width, crc_width, crc_generator, crc_start}
 use Rattle.wire.specs.Bits.{bits, xors}
-use Rattle.wire.specs.BitsLaws.{length_bits}
+use Rattle.wire.proofs.BitsLaws.{length_bits}
 use Rattle.wire.specs.Crc.{crc_step, crc_from, crc}
 use Rattle.wire.specs.Fields.{Span, field, raw, header, data_fields}
 use Rattle.wire.specs.Image.{start_of_frame}
-use Rattle.wire.specs.FieldsLaws.{raw-append, carried-le}
+use Rattle.wire.proofs.FieldsLaws.{raw-append, carried-le}
 use Rattle.wire.specs.Layout.{done, wide, Got}
-use Rattle.wire.specs.FramesLaws.{got_fields, GotIn}
+use Rattle.wire.proofs.FramesLaws.{got_fields, GotIn}
 use Rattle.reader.specs.declared.fields.Field.TheVariants.{Done}
 use Rattle.reader.specs.Reader.{is_done, remote_of, bytes_to_come}
 use Rattle.line.specs.declared.inframe.InFrame.{InFrame}

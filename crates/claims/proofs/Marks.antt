@@ -9,15 +9,15 @@ use lib.Dec.{eqb, leb, ltb, lit<}
 use lib.ListN.{drop, replicate-append-replicate}
 use borrow.Author.Tests.{eqb-true, eqb-false, ltb-false, leb-true}
 use Rattle.wire.specs.Numbers.{five, idle}
-use Rattle.wire.specs.BitsLaws.{AllBits, all_bits-append}
+use Rattle.wire.proofs.BitsLaws.{AllBits, all_bits-append}
 use Rattle.wire.specs.Stuffing.{none, ran_from, stuff_from}
-use Rattle.wire.specs.StuffingLaws.{unstuff-append, unbroken-append, stuff_unstuff_bit}
+use Rattle.wire.proofs.StuffingLaws.{unstuff-append, unbroken-append, stuff_unstuff_bit}
 use Rattle.wire.specs.Unstuffing.{unstuff_from, Unbroken}
 use Rattle.wire.specs.Fields.{raw}
-use Rattle.wire.specs.ImageLaws.{begun}
+use Rattle.wire.proofs.ImageLaws.{begun}
 use Rattle.wire.specs.Layout.{Layout, done, part, newer, Walker, enter, Got, frames}
-use Rattle.wire.specs.LayoutLaws.{Open, Stood, stood_new, stood_open, takes-append}
-use Rattle.wire.specs.FramesLaws.{got_fields, GotIn, sized_frames}
+use Rattle.wire.proofs.LayoutLaws.{Open, Stood, stood_new, stood_open, takes-append}
+use Rattle.wire.proofs.FramesLaws.{got_fields, GotIn, sized_frames}
 use Rattle.claims.specs.Table.{Where, waiting, ready, stuffed, crc_delimiter, ack_slot, ack_delimiter, end_of_frame, intermission, Row, recessives_from, recessives, sixth, reading, newer_begun, ended, onward, checks, row}
 use Rattle.claims.specs.Numbers.{quiet}
 use Rattle.claims.specs.Lines.{recessive}

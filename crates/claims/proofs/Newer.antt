@@ -11,14 +11,14 @@ use Rattle.wire.specs.declared.idents.Ident.{Ident}
 use Rattle.wire.specs.declared.idents.Ident.TheVariants.{Base, Extended}
 use Rattle.wire.specs.Numbers.{base_width, lower_width}
 use Rattle.wire.specs.Stuffing.{none, ran_from, stuff_from}
-use Rattle.wire.specs.StuffingLaws.{stuff-append, unstuff_stuff, stuff-cons}
+use Rattle.wire.proofs.StuffingLaws.{stuff-append, unstuff_stuff, stuff-cons}
 use Rattle.wire.specs.Unstuffing.{unstuff_from}
 use Rattle.wire.specs.Fields.{raw, noted_sum, rtr, upper, lower, joined, before_fdf}
 use Rattle.wire.specs.Legal.{IdentIn}
 use Rattle.wire.specs.Layout.{Layout, part, is_newer, Walker, enter, took, Got, rest_of, fdf_then, frames}
-use Rattle.wire.specs.LayoutLaws.{Open, Reads, nothing_read, then, reads_field, takes-append}
-use Rattle.wire.specs.FramesLaws.{rtr-lt}
-use Rattle.wire.specs.ImageLaws.{begun}
+use Rattle.wire.proofs.LayoutLaws.{Open, Reads, nothing_read, then, reads_field, takes-append}
+use Rattle.wire.proofs.FramesLaws.{rtr-lt}
+use Rattle.wire.proofs.ImageLaws.{begun}
 use Rattle.claims.specs.Answers.{Said, nothing, newer_format}
 use Rattle.claims.specs.Table.{Where, waiting, stuffed, Row, reading, newer_begun, onward, sixth, row, where_from, says_from}
 use Rattle.claims.specs.Newer.{newer_start, newer_reply}

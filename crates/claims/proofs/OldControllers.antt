@@ -14,7 +14,7 @@ use Rattle.wire.specs.declared.idents.Ident.TheVariants.{Base, Extended}
 use Rattle.wire.specs.declared.frames.Frame.{Frame}
 use Rattle.wire.specs.Numbers.{highest_base, highest_old}
 use Rattle.wire.specs.Bits.{bits, number}
-use Rattle.wire.specs.BitsLaws.{length_bits, bits-append, number-bits}
+use Rattle.wire.proofs.BitsLaws.{length_bits, bits-append, number-bits}
 use Rattle.refusals.specs.Refusals.{row, too_large, barred, refusal}
 use Rattle.refusals.specs.RefusalsLaws.{None, barred_unmarked}
 use Rattle.writer.specs.declared.written.Written.{Written}

@@ -13,7 +13,7 @@ use Rattle.wire.specs.declared.frames.Frame.{Frame}
 use Rattle.wire.specs.Numbers.{room}
 use Rattle.wire.specs.Fields.{carried, carried_bytes, trimmed}
 use Rattle.wire.specs.Image.{image}
-use Rattle.wire.specs.FieldsLaws.{carried-le}
+use Rattle.wire.proofs.FieldsLaws.{carried-le}
 use Rattle.wire.specs.Legal.{NotedIn, Stored, Legal}
 use Rattle.refusals.specs.Refusals.{frame_refusal}
 use Rattle.refusals.specs.RefusalsLaws.{ident_fits, code-fits, count_fits}

@@ -7,8 +7,8 @@ use native.Mathlib.Omega.{arith}
 use lib.ListN.{length, length-set}
 use Rattle.wire.specs.Numbers.{room}
 use Rattle.wire.specs.Layout.{Layout, done, part, newer, Walker, wide, enter, took, Got, frames}
-use Rattle.wire.specs.LayoutLaws.{Open, open_part, Sized, Stood, stood_new, stood_open, takes-append}
-use Rattle.wire.specs.FramesLaws.{sized_frames}
+use Rattle.wire.proofs.LayoutLaws.{Open, open_part, Sized, Stood, stood_new, stood_open, takes-append}
+use Rattle.wire.proofs.FramesLaws.{sized_frames}
 use Rattle.reader.specs.declared.readers.Reader.{Reader}
 use Rattle.reader.specs.declared.readers.Kept.{Kept}
 use Rattle.reader.specs.declared.readers.Kept.TheVariants.{NoByte, Byte}

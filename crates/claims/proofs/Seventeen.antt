@@ -9,7 +9,7 @@ use borrow.Author.Tests.{eqb-true, eqb-false, ltb-true, ltb-false, leb-false}
 use Rattle.wire.specs.declared.runs.Run.{Run}
 use Rattle.wire.specs.Numbers.{five, idle}
 use Rattle.wire.specs.Stuffing.{none, ran, ran_from}
-use Rattle.wire.specs.StuffingLaws.{ran-append}
+use Rattle.wire.proofs.StuffingLaws.{ran-append}
 use Rattle.wire.specs.Layout.{Layout, done, part, newer, Got}
 use Rattle.claims.specs.Table.{Where, waiting, ready, stuffed, crc_delimiter, ack_slot, ack_delimiter, end_of_frame, intermission, Row, recessives, sixth, reading, newer_begun, ended, onward, checks, row, where_from}
 use Rattle.claims.specs.Numbers.{settling}

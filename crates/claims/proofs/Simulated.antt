@@ -9,7 +9,7 @@ use lib.Arith.{digits_lt}
 use lib.Dec.{eqb, ltb, lit<}
 use borrow.Author.Tests.{ltb-false, le-ltb}
 use Rattle.wire.specs.Layout.{Layout, done, part, newer, is_newer, Walker, wide, took, Got, frames}
-use Rattle.wire.specs.LayoutLaws.{Open, open_part, Stood}
+use Rattle.wire.proofs.LayoutLaws.{Open, open_part, Stood}
 use Rattle.reader.specs.declared.fields.Field.{Field}
 use Rattle.reader.specs.declared.fields.Field.TheVariants.{Upper, Srr, Ide, Lower, Rtr, Fdf, R0, Code, Data, Crc, Done}
 use Rattle.reader.specs.declared.registers.Registers.{Registers}

@@ -9,8 +9,8 @@ use Rattle.wire.specs.Numbers.{five}
 use Rattle.wire.specs.Stuffing.{none, ran_from}
 use Rattle.wire.specs.Fields.{raw}
 use Rattle.wire.specs.Layout.{Layout, done, part, newer, is_newer, Walker, enter, takes, Got, frames}
-use Rattle.wire.specs.LayoutLaws.{Open, open_part, Stood, stood_end}
-use Rattle.wire.specs.FramesLaws.{got_fields, GotIn, frames-told}
+use Rattle.wire.proofs.LayoutLaws.{Open, open_part, Stood, stood_end}
+use Rattle.wire.proofs.FramesLaws.{got_fields, GotIn, frames-told}
 use Rattle.claims.specs.Table.{stuffed, crc_delimiter, reading, newer_begun, ended, onward}
 
 abbrev pub walker : List ℕ → Walker Got

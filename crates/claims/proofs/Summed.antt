@@ -9,7 +9,7 @@ use lib.ListN.{length, length-append}
 use borrow.Author.Tests.{ltb-true, ltb-false}
 use Rattle.wire.specs.Numbers.{crc_width, crc_generator, crc_start, room}
 use Rattle.wire.specs.Crc.{crc_step, crc_from}
-use Rattle.wire.specs.CrcLaws.{crc-append}
+use Rattle.wire.proofs.CrcLaws.{crc-append}
 use Rattle.reader.specs.declared.fields.Field.{Field}
 use Rattle.reader.specs.declared.fields.Field.TheVariants.{Upper, Srr, Ide, Lower, Rtr, Fdf, R0, Code, Data, Crc, Done}
 use Rattle.reader.specs.declared.registers.Registers.{Registers}

@@ -4,7 +4,7 @@ use mathlib.Core.Path.{◌≡◌, ap, ◌∙◌}
 use mathlib.Core.Bool.{Bool}
 use mathlib.Core.List.{List}
 use Rattle.wire.specs.declared.frames.Frame.{Frame}
-use Rattle.wire.specs.ImageLaws.{image_length}
+use Rattle.wire.proofs.ImageLaws.{image_length}
 use Rattle.writer.specs.declared.written.Written.{Written}
 use Rattle.refusals.specs.Refusals.{frame_refusal}
 use Rattle.refusals.specs.RefusalsLaws.{taken_unmarked}

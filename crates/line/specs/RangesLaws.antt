@@ -4,7 +4,7 @@ use Rattle.std.proofs.Common.{arith, lit<, ltb-true, lt-ltb}
 use Rattle.wire.specs.declared.runs.Run.{Run}
 use Rattle.wire.specs.Numbers.{five, crc_width, crc_generator, end_of_frame_bits, idle}
 use Rattle.wire.specs.Crc.{crc_step}
-use Rattle.wire.specs.CrcLaws.{crc_step-lt}
+use Rattle.wire.proofs.CrcLaws.{crc_step-lt}
 use Rattle.wire.specs.Stuffing.{ran}
 use Rattle.wire.specs.Unstuffing.{sampled_as}
 use Rattle.reader.specs.Reader.{is_done, is_fdf, is_summed}

@@ -3,7 +3,7 @@ use Rattle.std.specs.Prelude.{ℕ, ◌+◌, ◌^◌, ◌<◌, ◌≤◌, ◌≡�
 use Rattle.std.proofs.lemmas.Bool.{false≢true}
 use Rattle.std.proofs.Common.{arith, lit<, ltb-true, lt-ltb}
 use Rattle.wire.specs.Numbers.{room, base_width, lower_width, code_width, crc_width}
-use Rattle.wire.specs.FieldsLaws.{carried-le}
+use Rattle.wire.proofs.FieldsLaws.{carried-le}
 use Rattle.reader.specs.declared.fields.Field.{Field}
 use Rattle.reader.specs.declared.fields.Field.TheVariants.{Upper, Srr, Ide, Lower, Rtr, Fdf, R0, Code, Data, Crc, Done}
 use Rattle.reader.specs.declared.registers.Registers.{Registers}

@@ -1,2 +1,10 @@
+pub mod BitsLaws
+pub mod CrcLaws
+pub mod StuffingLaws
+pub mod FieldsLaws
+pub mod LayoutLaws
+pub mod FramesLaws
+pub mod ImageLaws
+pub mod SamplesLaws
 pub mod Loops
 pub mod Pinned

@@ -3,7 +3,7 @@ use Prim.Native.Nat.{ℕ, ◌-◌, ◌<◌, ◌≤◌, zero-le}
 use mathlib.Core.Path.{◌≡◌, sym, ap, ◌∙◌}
 use native.Mathlib.Nat.{le_antisymm}
 use Rattle.wire.specs.Bits.{bit_at, bits}
-use Rattle.wire.specs.BitsLaws.{bits-step}
+use Rattle.wire.proofs.BitsLaws.{bits-step}
 use Rattle.wire.specs.Crc.{crc_step, crc_from}
 
 module _ (w g r x : ℕ) where

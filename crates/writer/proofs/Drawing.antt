@@ -23,7 +23,7 @@ use Rattle.refusals.specs.RefusalsLaws.{ident_fits, code-fits}
 use Rattle.writer.specs.Writer.{wire_bits}
 use Rattle.writer.specs.Pages.{Page, page, new_pen, new_draft, marks, drawn, Sheet, sheet, laid, closed, framed, head_fields}
 use Rattle.writer.specs.PagesLaws.{drawn-append, laid-append}
-use Rattle.wire.specs.FieldsLaws.{raw-append, carried-le}
+use Rattle.wire.proofs.FieldsLaws.{raw-append, carried-le}
 use Rattle.writer.specs.PackedLaws.{value_from, raw_packed}
 use Rattle.writer.specs.ImageLaws.{covered, sent-coded, ending-coded}
 

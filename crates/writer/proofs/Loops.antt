@@ -7,7 +7,7 @@ use native.Mathlib.Numerals.{add-one}
 use lib.ListN.{length, drop, set, get_or, drop_of_length-le}
 use lib.Seq.{sets, drop-cons}
 use Rattle.wire.specs.Bits.{bit_at, bits}
-use Rattle.wire.specs.BitsLaws.{bits-step}
+use Rattle.wire.proofs.BitsLaws.{bits-step}
 use Rattle.wire.specs.Stuffing.{Coded, all}
 use Rattle.wire.specs.Fields.{raw, data_fields}
 use Rattle.writer.specs.declared.coding.Coding.{Coding}

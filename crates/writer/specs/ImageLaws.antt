@@ -9,7 +9,7 @@ use Rattle.wire.specs.Stuffing.{Coded, dynamic, plain, all}
 use Rattle.wire.specs.Fields.{Span, field, raw, coded, header, carried_bytes, data_fields}
 use Rattle.wire.specs.Image.{body, ending, fields}
 use Rattle.writer.specs.Writer.{sent_as}
-use Rattle.wire.specs.FieldsLaws.{Alike, alike-append, coded-append, coded_alike, header_stuffed, data_stuffed}
+use Rattle.wire.proofs.FieldsLaws.{Alike, alike-append, coded-append, coded_alike, header_stuffed, data_stuffed}
 
 -- what the CRC is worked out over
 abbrev pub covered : Frame → List ℕ

@@ -2,7 +2,7 @@
 use Rattle.std.specs.Prelude.{ℕ, ◌+◌, ◌*◌, ◌^◌, ◌<◌, ◌≡◌, List, [], ◌∷◌, ◌++◌}
 use Rattle.std.proofs.Common.{sym, ap, ◌∙◌, append_assoc, append-nil}
 use Rattle.wire.specs.Bits.{bits}
-use Rattle.wire.specs.BitsLaws.{bits-append}
+use Rattle.wire.proofs.BitsLaws.{bits-append}
 use Rattle.wire.specs.Fields.{Span, raw}
 
 -- each value keeps to its width

@@ -8,9 +8,9 @@ use Rattle.wire.specs.declared.runs.Run.{Run}
 use Rattle.wire.specs.declared.runs.Due.{Due}
 use Rattle.wire.specs.declared.runs.Due.TheVariants.{Nothing, Stuff}
 use Rattle.wire.specs.Numbers.{five, crc_width, crc_generator}
-use Rattle.wire.specs.CrcLaws.{crc-append}
+use Rattle.wire.proofs.CrcLaws.{crc-append}
 use Rattle.wire.specs.Stuffing.{ran, ran_from, Coded, dynamic, Sample, frame, stuff, wire, opposite, code_from, all}
-use Rattle.wire.specs.StuffingLaws.{wire-append, all-append, run_after, code-append}
+use Rattle.wire.proofs.StuffingLaws.{wire-append, all-append, run_after, code-append}
 use Rattle.writer.specs.declared.pen.Pen.{Pen}
 use Rattle.writer.specs.declared.coding.Coding.{Coding}
 use Rattle.writer.specs.declared.coding.Coding.TheVariants.{Dynamic, Plain}

@@ -2,7 +2,7 @@
 use Rattle.std.proofs.Common.{◌*◌, ◌%◌, sym, arith, ne_eqb}
 use lib.Dec.{lit<}
 use Rattle.proving.specs.Tests.{tests}
-use Rattle.wire.specs.BitsLaws.{xors_is}
+use Rattle.wire.proofs.BitsLaws.{xors_is}
 use Rattle.wire.specs.Crc.{crc_step}
 use Rattle.wire.specs.Numbers.{crc_width, crc_generator}
 use Rattle.wire.proofs.crc.crc_bit.Goals as goal

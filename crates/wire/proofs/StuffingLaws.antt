@@ -4,7 +4,7 @@ use Rattle.std.proofs.Common.{sym, ap, ◌∙◌, append-nil, append_assoc, arit
 use Rattle.std.proofs.lemmas.Bool.{eqb-false}
 use Rattle.wire.specs.declared.runs.Run.{Run}
 use Rattle.wire.specs.Numbers.{five}
-use Rattle.wire.specs.BitsLaws.{AllBits, all_bits-append}
+use Rattle.wire.proofs.BitsLaws.{AllBits, all_bits-append}
 use Rattle.wire.specs.Stuffing.{ran, ran_from, Coding, dynamic, plain, Coded, Sample, frame, stuff, wire, opposite, due, sends, code_from, all, stuff_from}
 use Rattle.wire.specs.Unstuffing.{unstuff_from, Unbroken}
 

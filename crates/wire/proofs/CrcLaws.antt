@@ -2,7 +2,7 @@
 use Rattle.std.specs.Prelude.{ℕ, suc, ◌-◌, ◌*◌, ◌%◌, ◌^◌, ◌<◌, ◌≡◌, refl, Bool, true, false, cond, List, [], ◌∷◌, ◌++◌, eqb}
 use Rattle.std.proofs.Common.{ap, ◌∙◌, pow-suc, mod-lt, arith, pow_pos}
 use Rattle.wire.specs.Bits.{bit_at, xors}
-use Rattle.wire.specs.BitsLaws.{xors-lt}
+use Rattle.wire.proofs.BitsLaws.{xors-lt}
 use Rattle.wire.specs.Crc.{crc_step, crc_from}
 
 pub crc-append : (w g r : ℕ) (xs ys : List ℕ) → crc_from w g r (xs ++ ys) ≡ crc_from w g (crc_from w g r xs) ys

@@ -8,7 +8,7 @@ use native.Mathlib.Omega.{arith}
 use Rattle.std.proofs.Math.Nat.{sub_self, sub-zero}
 use Rattle.std.proofs.Math.Arith.{digits_lt}
 use Rattle.wire.specs.Bits.{bits}
-use Rattle.wire.specs.BitsLaws.{bits-snoc, half-lt}
+use Rattle.wire.proofs.BitsLaws.{bits-snoc, half-lt}
 use Rattle.wire.specs.Fields.{Span, field, raw}
 use Rattle.wire.specs.Layout.{Layout, done, part, newer, Way, end, along, Walker, wide, enter, took, takes}
 

@@ -9,7 +9,7 @@ use Rattle.wire.specs.Numbers.{base_width, lower_width, code_width, byte_width, 
 use Rattle.wire.specs.Fields.{Span, field, fdf, noted_sum, srr, r0, rtr, upper, lower, joined, header, carried, data_fields}
 use Rattle.wire.specs.Legal.{IdentIn, NotedIn}
 use Rattle.wire.specs.Layout.{Layout, done, part, newer, Way, end, along, Got, bytes_of, rest_of, fdf_then, base_rest, extended_rest, frames}
-use Rattle.wire.specs.LayoutLaws.{Sized}
+use Rattle.wire.proofs.LayoutLaws.{Sized}
 
 -- the fields of what was read, behind the start of frame
 abbrev pub got_fields : Got → List Span

@@ -5,9 +5,9 @@ use Rattle.wire.specs.declared.idents.Ident.{Ident}
 use Rattle.wire.specs.declared.idents.Ident.TheVariants.{Base, Extended}
 use Rattle.wire.specs.Numbers.{room, byte_width}
 use Rattle.wire.specs.Bits.{bits}
-use Rattle.wire.specs.BitsLaws.{length_bits, AllBits, all_bits-append, bits_are}
+use Rattle.wire.proofs.BitsLaws.{length_bits, AllBits, all_bits-append, bits_are}
 use Rattle.wire.specs.Stuffing.{Coding, dynamic, Coded, all}
-use Rattle.wire.specs.StuffingLaws.{all-append}
+use Rattle.wire.proofs.StuffingLaws.{all-append}
 use Rattle.wire.specs.Fields.{Span, raw, coded, header, carried, data_fields}
 
 -- PART BY PART
