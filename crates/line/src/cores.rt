@@ -12,7 +12,7 @@ use moves::{Fault, Move, Place};
 use reader::Kept;
 
 // `quiet` is how many recessive samples in a row there were last, held at eleven.
-#[derive(Drop)]
+#[derive(Clone, Copy)]
 pub struct Core {
     pub place: Place,
     pub quiet: u32,
@@ -20,14 +20,14 @@ pub struct Core {
 }
 
 // What came of a sample: something to keep or nothing, a whole frame, or a trouble.
-#[derive(Drop)]
+#[derive(Clone, Copy)]
 pub enum Event {
     Keep(Kept),
     Whole,
     Failed(Fault),
 }
 
-#[derive(Drop)]
+#[derive(Clone, Copy)]
 pub struct Stepped {
     pub event: Event,
     pub core: Core,

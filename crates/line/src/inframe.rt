@@ -8,7 +8,7 @@ use wire::Run;
 use wire::crc::crc_bit;
 
 // The run of equal samples, the reader, the CRC's register over the bits of the frame, and the acknowledge slot.
-#[derive(Drop)]
+#[derive(Clone, Copy)]
 pub struct InFrame {
     pub run: Run,
     pub reader: Reader,

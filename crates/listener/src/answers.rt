@@ -9,7 +9,7 @@ use moves::Fault;
 use wire::Received;
 use wire::frames::ROOM;
 
-#[derive(Drop)]
+#[derive(Clone, Copy)]
 pub enum Answer {
     Nothing,
     Handed,
@@ -18,7 +18,7 @@ pub enum Answer {
 }
 
 // `received` is a blank where no frame is handed out.
-#[derive(Drop)]
+#[derive(Clone, Copy)]
 pub struct Heard {
     pub answer: Answer,
     pub received: Received,
@@ -26,7 +26,7 @@ pub struct Heard {
 }
 
 // The same, with the position of the sample that was answered so.
-#[derive(Drop)]
+#[derive(Clone, Copy)]
 pub struct Found {
     pub answer: Answer,
     pub received: Received,

@@ -10,7 +10,7 @@ use reader::Kept;
 use wire::frames::ROOM;
 
 // The core that follows the line, and the data bytes of the frame it is in.
-#[derive(Drop)]
+#[derive(Clone, Copy)]
 pub struct Listener {
     pub core: Core,
     pub bytes: [u8; ROOM],

@@ -5,7 +5,7 @@ ghost use Rattle.moves.specs.Moves.{quiet_after, when_waiting, when_ready, when_
 use crate::places::{Fault, Place};
 use wire::Sampled;
 
-#[derive(Drop)]
+#[derive(Clone, Copy)]
 pub enum Move {
     // nothing but another place
     Go(Place),

@@ -4,7 +4,7 @@ ghost use Rattle.moves.specs.Ranges.{place_fits};
 
 // Where a sample finds whoever follows the line (01 "What the listener does at each sample"). Stuffed is from behind the start of
 // frame to the CRC delimiter; the bits of end of frame and intermission are counted from 1.
-#[derive(Drop)]
+#[derive(Clone, Copy)]
 pub enum Place {
     Waiting,
     Ready,
@@ -16,7 +16,7 @@ pub enum Place {
 }
 
 // Why it waits again.
-#[derive(Drop)]
+#[derive(Clone, Copy)]
 pub enum Fault {
     StuffError,
     FormError,

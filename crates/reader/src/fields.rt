@@ -8,7 +8,7 @@ use wire::frames::ROOM;
 
 // The fields of a frame behind the start of frame. Srr is the bit before IDE: SRR in an extended frame, RTR in a base frame. Fdf is
 // r0 of a base frame and r1 of an extended one: whoever follows the line gives only a dominant one to the reader.
-#[derive(Drop)]
+#[derive(Clone, Copy)]
 pub enum Field {
     Upper,
     Srr,

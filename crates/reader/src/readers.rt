@@ -7,7 +7,7 @@ use crate::fields::Field;
 use crate::registers::Registers;
 
 // The field that is being read, how many of its bits are to come, those that came as a number, and the fields before it.
-#[derive(Drop)]
+#[derive(Clone, Copy)]
 pub struct Reader {
     pub field: Field,
     pub left: u32,
@@ -16,13 +16,13 @@ pub struct Reader {
 }
 
 // What a bit leaves to be kept outside: nothing, or the data byte that it made whole, with its place.
-#[derive(Drop)]
+#[derive(Clone, Copy)]
 pub enum Kept {
     NoByte,
     Byte(usize, u8),
 }
 
-#[derive(Drop)]
+#[derive(Clone, Copy)]
 pub struct Took {
     pub reader: Reader,
     pub kept: Kept,

@@ -9,7 +9,7 @@ use wire::frames::{ROOM, carried};
 use wire::{BaseId, ExtId, Frame, Ident};
 
 // What each field held, as it came. The data bytes are not kept here: each is handed on as it is whole.
-#[derive(Drop)]
+#[derive(Clone, Copy)]
 pub struct Registers {
     pub upper: u32,
     pub srr: u32,

@@ -8,7 +8,7 @@ use crate::idents::Ident;
 pub const ROOM: usize = 8;
 
 // `count` bytes are given; what stands behind them in `bytes` is no part of the frame.
-#[derive(Drop)]
+#[derive(Clone, Copy)]
 pub struct Frame {
     pub ident: Ident,
     pub remote: bool,
@@ -19,7 +19,7 @@ pub struct Frame {
 
 // A frame as it came off the wire: unused bytes are 0. `noted` is 0 for a base frame, and for an
 // extended one a sum: 4 if SRR came dominant, 1 if r0 came recessive.
-#[derive(Drop)]
+#[derive(Clone, Copy)]
 pub struct Received {
     pub frame: Frame,
     pub acknowledged: bool,

@@ -4,21 +4,21 @@ ghost use Rattle.wire.specs.Stuffing.{none, opposite, ran, due_as};
 ghost use Rattle.wire.specs.Unstuffing.{sampled_as};
 
 // The run of equal samples so far: the last sample, and how many equal ones end with it, up to five.
-#[derive(Drop)]
+#[derive(Clone, Copy)]
 pub struct Run {
     pub last: u32,
     pub len: u32,
 }
 
 // What is due before the next bit of the stuffed part.
-#[derive(Drop)]
+#[derive(Clone, Copy)]
 pub enum Due {
     Nothing,
     Stuff(u32),
 }
 
 // What a sample of the stuffed part is.
-#[derive(Drop)]
+#[derive(Clone, Copy)]
 pub enum Sampled {
     FrameBit,
     StuffBit,
