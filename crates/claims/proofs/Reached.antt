@@ -11,7 +11,7 @@ use Rattle.line.specs.declared.cores.Event.{Event}
 use Rattle.line.specs.declared.cores.Event.TheVariants.{Keep, Whole, Failed}
 use Rattle.line.specs.Core.{stepped}
 use Rattle.line.specs.Ranges.{core_fits}
-use Rattle.line.specs.RangesLaws.{fits-new, fits-step}
+use Rattle.line.proofs.RangesLaws.{fits-new, fits-step}
 use Rattle.listener.specs.declared.listeners.Listener.{Listener}
 use Rattle.listener.specs.declared.answers.Heard.{Heard}
 use Rattle.listener.specs.Listener.{new_listener, answer_to, accepted, fits, heard}

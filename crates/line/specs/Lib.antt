@@ -1,3 +1,2 @@
 pub mod Core
 pub mod Ranges
-pub mod RangesLaws

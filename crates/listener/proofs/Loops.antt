@@ -13,7 +13,7 @@ use Rattle.line.specs.declared.cores.Stepped.{Stepped}
 use Rattle.moves.specs.declared.places.Fault.{Fault}
 use Rattle.line.specs.Core.{stepped}
 use Rattle.line.specs.Ranges.{core_fits}
-use Rattle.line.specs.RangesLaws.{fits-step}
+use Rattle.line.proofs.RangesLaws.{fits-step}
 use Rattle.listener.specs.declared.listeners.Listener.{Listener}
 use Rattle.listener.specs.declared.answers.Found.{Found}
 use Rattle.listener.specs.Listener.{kept_in, answer_to, refused, found_at, seek}
