@@ -4,8 +4,7 @@ use Rattle.wire.specs.declared.idents.Ident.{Ident}
 use Rattle.wire.specs.declared.frames.Frame.{Frame}
 use Rattle.wire.specs.declared.frames.Received.{Received}
 use Rattle.wire.specs.Numbers.{highest_base, highest_old}
-use Rattle.wire.specs.Image.{image}
-use Rattle.wire.proofs.ImageLaws.{longest}
+use Rattle.wire.specs.Image.{image, longest}
 use Rattle.wire.specs.Legal.{IdentIn, Legal}
 use Rattle.writer.specs.declared.written.Written.{Written}
 use Rattle.refusals.specs.Refusals.{frame_refusal}

@@ -7,7 +7,7 @@ use Rattle.wire.specs.declared.idents.Ident.TheVariants.{Base, Extended}
 use Rattle.wire.specs.declared.frames.Frame.{Frame}
 use Rattle.wire.specs.declared.frames.Received.{Received}
 use Rattle.wire.specs.declared.runs.Run.{Run}
-use Rattle.wire.specs.Numbers.{crc_width, end_of_frame_bits, longest_base, longest_extended}
+use Rattle.wire.specs.Numbers.{crc_width, end_of_frame_bits}
 use Rattle.wire.specs.Bits.{bits}
 use Rattle.wire.proofs.BitsLaws.{length_bits, AllBits, all_bits-append}
 use Rattle.wire.specs.Crc.{crc}
@@ -15,7 +15,7 @@ use Rattle.wire.specs.Stuffing.{none, ran, dynamic, plain, Coded, wire, code_fro
 use Rattle.wire.proofs.StuffingLaws.{wire-append, code-append, code_plain, run_after, stuff_bits, stuff-length}
 use Rattle.wire.specs.Fields.{Span, field, raw, coded, header, carried, carried_bytes, data_fields}
 use Rattle.wire.proofs.FieldsLaws.{raw-append, coded-append, Alike, alike-append, coded_alike, header_stuffed, data_stuffed, raw-bits, header_bits, length_header, length_data, carried-le}
-use Rattle.wire.specs.Image.{start_of_frame, body, slot, behind_delimiter, fields, image}
+use Rattle.wire.specs.Image.{start_of_frame, body, slot, behind_delimiter, fields, image, longest}
 use Rattle.wire.specs.Layout.{done, end, Walker, enter, takes, Got, frames}
 use Rattle.wire.proofs.LayoutLaws.{Reads, reads_way}
 use Rattle.wire.proofs.FramesLaws.{got_fields, GotIn, frames-told, frames_way}
@@ -127,10 +127,6 @@ stuffed_most r =
       length-take n f.bytes,
       carried-le f.remote f.code,
     )
-
-abbrev pub longest : Ident → ℕ
-longest (Base i) = longest_base
-longest (Extended i) = longest_extended
 
 within : (i : Ident) (n m : ℕ) → n ≤ header_bits i + 80 → 4 * m + 1 ≤ 5 * n + 1 → m + 10 ≤ longest i
 within (Base i) n m h k = omega arith

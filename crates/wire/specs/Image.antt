@@ -1,8 +1,10 @@
 -- The received image (01 "The wire image"): the samples of a frame with its noted bits and slot, from start of frame to end of frame.
 use Rattle.std.specs.Prelude.{ℕ, ◌-◌, ◌^◌, Bool, cond, List, [], ◌∷◌, ◌++◌}
+use Rattle.wire.specs.declared.idents.Ident.{Ident}
+use Rattle.wire.specs.declared.idents.Ident.TheVariants.{Base, Extended}
 use Rattle.wire.specs.declared.frames.Frame.{Frame}
 use Rattle.wire.specs.declared.frames.Received.{Received}
-use Rattle.wire.specs.Numbers.{crc_width, end_of_frame_bits}
+use Rattle.wire.specs.Numbers.{crc_width, end_of_frame_bits, longest_base, longest_extended}
 use Rattle.wire.specs.Crc.{crc}
 use Rattle.wire.specs.Stuffing.{code, wire}
 use Rattle.wire.specs.Fields.{Span, field, bare, raw, coded, header, carried_bytes, data_fields}
@@ -34,3 +36,8 @@ fields r =
 
 abbrev pub image : Received → List ℕ
 image r = wire (code (coded (fields r)))
+
+-- no image is longer
+abbrev pub longest : Ident → ℕ
+longest (Base i) = longest_base
+longest (Extended i) = longest_extended

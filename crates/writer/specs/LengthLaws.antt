@@ -5,7 +5,8 @@ use Rattle.wire.specs.declared.idents.Ident.{Ident}
 use Rattle.wire.specs.declared.idents.Ident.TheVariants.{Base, Extended}
 use Rattle.wire.specs.declared.frames.Frame.{Frame}
 use Rattle.wire.specs.Numbers.{longest_extended}
-use Rattle.wire.proofs.ImageLaws.{longest, image_parts, image_length}
+use Rattle.wire.specs.Image.{longest}
+use Rattle.wire.proofs.ImageLaws.{image_parts, image_length}
 use Rattle.writer.specs.Writer.{sent_as, wire_bits}
 
 longest_of_all : (i : Ident) → longest i ≤ longest_extended
