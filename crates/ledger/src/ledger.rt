@@ -51,6 +51,7 @@ impl Ledger {
     }
 
     // Whether what the record holds lies in its range.
+    #[tactic(auto, unfolding(crate::specs::Answer::in_range))]
     pub(crate) fn in_range(self) -> bool
         ensures { result ≡ in_range self }
     {
