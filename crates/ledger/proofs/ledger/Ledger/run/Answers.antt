@@ -1,5 +1,5 @@
 -- One number more leaves the rest of the history to run; behind the last number nothing is left.
-use Rattle.std.proofs.Common.{◌<◌, ◌≡◌, ◌∙◌, sym, length, arith}
+use Rattle.std.proofs.Common.{◌<◌, ◌∙◌, sym, length, arith}
 use Rattle.ledger.specs.HistoryLaws.{run-at, run-end}
 use Rattle.ledger.proofs.ledger.Ledger.run.Goals as goal
 

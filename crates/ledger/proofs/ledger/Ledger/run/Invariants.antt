@@ -6,7 +6,7 @@ use Rattle.ledger.proofs.ledger.Ledger.run.Given as goal
 abbrev pub invariant-loop-i : goal.invariant-loop-i
 invariant-loop-i l = record {
   rest : run (events (drop l.i l.numbers)) l.ledger ≡ run (events l.numbers) l.initial.ledger;
-  within : l.i ≤ length l.numbers
+  within : l.i ≤ length l.numbers;
 }
 
 abbrev pub decreases-loop-i : goal.decreases-loop-i
