@@ -4,92 +4,86 @@
 #![tactic(auto)]
 
 use ledger::{Ledger, State};
-use libc::{STDIN_FILENO, STDOUT_FILENO};
+use std::io;
+use std::io::{Read, Write};
 
 // The ledger after what was read, and whether there may be more.
-#[derive(Drop)]
+#[derive(Clone, Copy)]
 struct Taken {
     ledger: Ledger,
     more: bool,
 }
 
-fn print_state(s: State) {
+fn print_state<W: Write>(out: &mut W, s: State) -> io::Result<()> {
     match s {
-        State::Active => {
-            io::write_all(STDOUT_FILENO, b"active\n");
-        }
-        State::Passive => {
-            io::write_all(STDOUT_FILENO, b"passive\n");
-        }
-        State::BusOff => {
-            io::write_all(STDOUT_FILENO, b"off\n");
-        }
+        State::Active => out.write_all(b"active\n"),
+        State::Passive => out.write_all(b"passive\n"),
+        State::BusOff => out.write_all(b"off\n"),
     }
 }
 
-fn print_number(n: u64) {
-    io::print_decimal(STDOUT_FILENO, n);
-    io::write_all(STDOUT_FILENO, b" ");
+fn print_number<W: Write>(out: &mut W, n: u64) -> io::Result<()> {
+    write!(out, "{n} ")
 }
 
-fn print_ledger(l: Ledger) {
-    print_number(l.transmit.0 as u64);
-    print_number(l.receive.0 as u64);
-    print_number(l.groups as u64);
-    print_state(l.state());
+fn print_ledger<W: Write>(out: &mut W, l: Ledger) -> io::Result<()> {
+    print_number(out, l.transmit.0 as u64)?;
+    print_number(out, l.receive.0 as u64)?;
+    print_number(out, l.groups as u64)?;
+    print_state(out, l.state())
 }
 
 // One digit's event.
-fn take_event(l: Ledger, number: u8) -> Ledger {
+fn take_event<W: Write>(out: &mut W, l: Ledger, number: u8) -> io::Result<Ledger> {
     let next = l.replay(&[number]).ledger;
-    print_ledger(next);
-    next
+    print_ledger(out, next)?;
+    Ok(next)
 }
 
 // One character.
-fn take_one(l: Ledger, c: u8) -> Ledger {
+fn take_one<W: Write>(out: &mut W, l: Ledger, c: u8) -> io::Result<Ledger> {
     match c {
-        b' ' | b'\t' | b'\r' | b'\n' => l,
-        b'0'..=b'9' => take_event(l, c - b'0'),
-        b'a' => take_event(l, 10),
+        b' ' | b'\t' | b'\r' | b'\n' => Ok(l),
+        b'0'..=b'9' => take_event(out, l, c - b'0'),
+        b'a' => take_event(out, l, 10),
         _ => {
-            io::write_all(STDOUT_FILENO, b"not an event\n");
-            l
+            out.write_all(b"not an event\n")?;
+            Ok(l)
         }
     }
 }
 
 // Each character of a piece.
-fn take_piece(l: Ledger, piece: &[u8]) -> Ledger {
+fn take_piece<W: Write>(out: &mut W, l: Ledger, piece: &[u8]) -> io::Result<Ledger> {
     let mut ledger = l;
-    let mut i = 0;
-    while i < piece.len() {
-        ledger = take_one(ledger, piece[i]);
-        i += 1;
+    for c in piece {
+        ledger = take_one(out, ledger, *c)?;
     }
-    ledger
+    Ok(ledger)
 }
 
 // Reads one piece and takes it.
-fn read_piece(l: Ledger) -> Taken {
-    let mut buffer = io::buffer();
-    let got = libc::read(STDIN_FILENO, &mut buffer);
-    let n = io::count(got, &buffer);
-    Taken {
-        ledger: take_piece(l, &buffer[..n]),
+fn read_piece<R: Read, W: Write>(input: &mut R, out: &mut W, l: Ledger) -> io::Result<Taken> {
+    let mut buffer = [0u8; 4096];
+    let n = input.read(&mut buffer)?;
+    let ledger = take_piece(out, l, &buffer[..n])?;
+    Ok(Taken {
+        ledger,
         more: 0 < n,
-    }
+    })
 }
 
-// Nothing says that the input ends, so the loop counts down from a number of pieces that no run uses up.
-fn main() {
-    let mut taken = Taken {
-        ledger: Ledger::new(),
-        more: true,
-    };
-    let mut pieces = u64::MAX;
-    while 0 < pieces && taken.more {
-        taken = read_piece(taken.ledger);
-        pieces -= 1;
+// Nothing says that the input ends, so the loop counts the pieces, up to a number of them that no run uses up.
+fn main(rt: HostRuntime) -> io::Result<()> {
+    let mut input = rt.stdin();
+    let mut out = rt.stdout();
+    let mut ledger = Ledger::new();
+    for _ in 0..u64::MAX {
+        let taken = read_piece(&mut input, &mut out, ledger)?;
+        if !taken.more {
+            break;
+        }
+        ledger = taken.ledger;
     }
+    Ok(())
 }

@@ -1,6 +1,5 @@
 -- Each public contract pins its result down, since each is an equation: with the result, or with the number in a count, which is all that it holds.
-use Prim.Native.Nat.{ℕ}
-use mathlib.Core.Path.{◌≡◌, ap}
+use Rattle.std.proofs.Common.{ℕ, ◌≡◌, ap}
 use Rattle.counts.specs.declared.count.TransmitCount.{TransmitCount}
 use Rattle.counts.specs.declared.count.ReceiveCount.{ReceiveCount}
 use Rattle.proving.specs.Pinning.{Pinned, one}

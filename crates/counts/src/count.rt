@@ -4,11 +4,11 @@ ghost use Rattle.counts.specs.Numbers.{receive_held, most_transmit};
 ghost use Rattle.counts.specs.Counts.{held, off, is_passive, raised, unacknowledged, received};
 
 // The transmit error count, T.
-#[derive(Drop)]
+#[derive(Clone, Copy)]
 pub struct TransmitCount(pub u16);
 
 // The receive error count, R.
-#[derive(Drop)]
+#[derive(Clone, Copy)]
 pub struct ReceiveCount(pub u16);
 
 // T or R above 127.

@@ -1,7 +1,5 @@
 -- A ledger is known by the numbers in its counts.
-use Prim.Native.Nat.{ℕ, ◌+◌}
-use mathlib.Core.Path.{◌≡◌, ap, ◌∙◌}
-use mathlib.Core.Bool.{Bool, false}
+use Rattle.std.proofs.Common.{ℕ, ◌+◌, ◌≡◌, ap, ◌∙◌, Bool, false}
 use Rattle.counts.specs.declared.count.TransmitCount.{TransmitCount}
 use Rattle.counts.specs.declared.count.ReceiveCount.{ReceiveCount}
 use Rattle.counts.specs.Numbers.{raise}

@@ -7,6 +7,7 @@ use crate::ledger::{Ledger, Ledgered};
 
 impl Ledger {
     // Any event: what each of the calls below does.
+    #[tactic(auto, unfolding(crate::specs::Answer::after))]
     pub fn step(self, e: Event) -> Ledgered
         ensures { result ≡ after e self }
     {

@@ -2,7 +2,7 @@
 ghost use Rattle.std.specs.Prelude.{◌≡◌};
 ghost use Rattle.ledger.specs.Rules.{is_group, is_ask};
 
-#[derive(Drop)]
+#[derive(Clone, Copy)]
 pub enum Event {
     // An error seen as receiver.
     ErrorSeen,

@@ -6,6 +6,7 @@ use crate::event::Event;
 use crate::ledger::{Ledger, Ledgered};
 
 // The event that a number from 0 to 10 stands for.
+#[tactic(auto, unfolding(crate::specs::History::event_of))]
 fn event_of(n: u8) -> Event
     requires { n ≤ 10 }
     ensures { event_of n ≡ result ∷ [] }
@@ -27,6 +28,7 @@ fn event_of(n: u8) -> Event
 
 impl Ledger {
     // One number: its event, or nothing where it is above 10.
+    #[tactic(auto, using(crate::specs::HistoryLaws::event_of_above), unfolding(crate::specs::History::run))]
     fn numbered(self, n: u8) -> Ledger
         ensures { result ≡ run (event_of n) self }
     {
@@ -37,6 +39,7 @@ impl Ledger {
     }
 
     // A history lent as event numbers, the oldest first; a number above 10 is no event. The record is looked at once, at the start.
+    #[tactic(auto, unfolding(crate::specs::History::after_all))]
     pub fn replay(self, numbers: &[u8]) -> Ledgered
         ensures { result ≡ after_all (events numbers.now) self }
     {

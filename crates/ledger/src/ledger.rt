@@ -7,7 +7,7 @@ use crate::state::State;
 use counts::{ReceiveCount, TransmitCount, is_passive};
 
 // Both counts; when bus-off, also whether a recovery was asked for, and the groups of eleven recessive bits seen since. Ranges: docs/RANGES.md.
-#[derive(Drop)]
+#[derive(Clone, Copy)]
 pub struct Ledger {
     pub transmit: TransmitCount,
     pub receive: ReceiveCount,
@@ -16,7 +16,7 @@ pub struct Ledger {
 }
 
 // What a call answers: 0 and the next ledger, or refusal 7 and the ledger that it was given.
-#[derive(Drop)]
+#[derive(Clone, Copy)]
 pub struct Ledgered {
     pub refusal: u8,
     pub ledger: Ledger,
@@ -51,6 +51,7 @@ impl Ledger {
     }
 
     // Whether what the record holds lies in its range.
+    #[tactic(auto, unfolding(crate::specs::Answer::in_range))]
     pub(crate) fn in_range(self) -> bool
         ensures { result ≡ in_range self }
     {

@@ -37,6 +37,7 @@ impl Ledger {
     }
 
     // Any event when bus-off.
+    #[tactic(auto, unfolding(crate::specs::Rules::waiting))]
     fn waiting(self, e: Event) -> Ledger
         ensures { result ≡ waiting e self }
     {
@@ -50,6 +51,7 @@ impl Ledger {
     }
 
     // Any event when not bus-off.
+    #[tactic(auto, unfolding(crate::specs::Rules::change))]
     fn counting(mut self, e: Event) -> Ledger
         requires { is_off self ≡ false }
         ensures { result ≡ counting e self }
@@ -96,6 +98,7 @@ impl Ledger {
     }
 
     // The rules.
+    #[tactic(auto, unfolding(crate::specs::Rules::next))]
     pub(crate) fn next(self, e: Event) -> Ledger
         ensures { result ≡ next e self }
     {

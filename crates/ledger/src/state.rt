@@ -1,5 +1,5 @@
 // How far a station may still take part on the line.
-#[derive(Drop)]
+#[derive(Clone, Copy)]
 pub enum State {
     Active,
     Passive,
