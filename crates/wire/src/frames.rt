@@ -8,7 +8,7 @@ use crate::idents::Ident;
 pub const ROOM: usize = 8;
 
 // `count` bytes are given; what stands behind them in `bytes` is no part of the frame.
-#[derive(Drop)]
+#[derive(Clone, Copy)]
 pub struct Frame {
     pub ident: Ident,
     pub remote: bool,

@@ -1,14 +1,14 @@
 // Identifiers (01 "How bits and frames are held"): two kinds of number, neither of which can be passed where the other belongs.
 
 // 11 bits.
-#[derive(Drop)]
+#[derive(Clone, Copy)]
 pub struct BaseId(pub u16);
 
 // 29 bits.
-#[derive(Drop)]
+#[derive(Clone, Copy)]
 pub struct ExtId(pub u32);
 
-#[derive(Drop)]
+#[derive(Clone, Copy)]
 pub enum Ident {
     Base(BaseId),
     Extended(ExtId),

@@ -4,7 +4,7 @@ ghost use Rattle.wire.specs.Stuffing.{none, opposite, ran, due_as};
 ghost use Rattle.wire.specs.Unstuffing.{sampled_as};
 
 // The run of equal samples so far: the last sample, and how many equal ones end with it, up to five.
-#[derive(Drop)]
+#[derive(Clone, Copy)]
 pub struct Run {
     pub last: u32,
     pub len: u32,
