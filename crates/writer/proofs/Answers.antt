@@ -33,6 +33,7 @@ middle c v i h l =
       zero-add,
       drop-drop,
       append_assoc,
+      append_assoc,
     )
 
 module _ (f : Frame) (old : Bool) (c : List ℕ) (start no : ℕ) (own : no ≡ frame_refusal f old) where

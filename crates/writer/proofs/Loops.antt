@@ -11,7 +11,7 @@ use Rattle.wire.proofs.BitsLaws.{bits-step}
 use Rattle.wire.specs.Stuffing.{Coded, all}
 use Rattle.wire.specs.Fields.{raw, data_fields}
 use Rattle.writer.specs.declared.coding.Coding.{Coding}
-use Rattle.writer.specs.Pages.{Page, page, coding_of, coded_bit, drawn, Sheet, laid}
+use Rattle.writer.specs.Pages.{Page, coding_of, coded_bit, drawn, Sheet, laid}
 use Rattle.writer.specs.PagesLaws.{drawn-append, drawn-length, laid-append, laid-nil, laid-length}
 
 -- the bits of a field, counted down

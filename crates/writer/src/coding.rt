@@ -5,7 +5,7 @@ ghost use Rattle.writer.specs.Pages.{due_before};
 use wire::{Due, Run};
 
 // How a bit is coded: with the stuff bit before it that may be due, or as it is.
-#[derive(Drop)]
+#[derive(Clone, Copy)]
 pub(crate) enum Coding {
     Dynamic,
     Plain,
