@@ -282,14 +282,14 @@ module _ (h : List ℕ) (b q : ℕ) (bit : b < 2) (quiet : q ≡ capped (recessi
                   becomes (Fail NewerFormat) (rw (five_is false e, live e) (move_bit false y)) (record { says = rw (z, n); stands = rw (z, n) (stood size waits) })
 
     step_at : (p : Where) (c : Place) → At p c f bytes → Steps h p b (hears c f bytes b q)
-    step_at waiting Waiting waits = step_waiting
-    step_at ready Ready readies = step_ready
-    step_at (stuffed s) Stuffed (stuffs i e) = step_stuffed s i e
-    step_at (crc_delimiter g) Stuffed (delimits u c) = step_delimiter g u c
-    step_at (ack_slot g) AckSlot (slots c) = step_slot g c
-    step_at (ack_delimiter g a) AckDelimiter (acks c) = step_ack g c
-    step_at (end_of_frame k g a) _ (ends c) = step_end k g c
-    step_at (intermission k) _ rests = step_rest k
+    step_at _ _ waits = step_waiting
+    step_at _ _ readies = step_ready
+    step_at _ _ (stuffs i e) = step_stuffed _ i e
+    step_at _ _ (delimits u c) = step_delimiter _ u c
+    step_at _ _ (slots c) = step_slot _ c
+    step_at _ _ (acks c) = step_ack _ c
+    step_at _ _ (ends c) = step_end _ _ c
+    step_at _ _ rests = step_rest _
 
 pub step_table : (h : List ℕ) (l : Listener) (p : Where) (b : ℕ) → b < 2 → Stands h l p → Steps h p b (accepted l b)
 step_table h l p b bit s =

@@ -5,7 +5,7 @@ ghost use Rattle.claims.specs.Promises.{LedgerPromise};
 use ledger::{Ledger, State};
 
 // How a station stands after a history: what the last call answered, and the state.
-#[derive(Drop)]
+#[derive(Clone, Copy)]
 pub struct Standing {
     pub refusal: u8,
     pub ledger: Ledger,

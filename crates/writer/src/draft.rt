@@ -9,7 +9,7 @@ use crate::pen::Pen;
 use wire::Run;
 use wire::crc::crc_bits;
 
-#[derive(Drop)]
+#[derive(Clone, Copy)]
 pub(crate) struct Draft {
     pub pen: Pen,
     pub crc: u32,

@@ -11,7 +11,7 @@ use wire::{Frame, Ident};
 const LOWER: u64 = 262144;
 
 // So many low bits of a number.
-#[derive(Drop)]
+#[derive(Clone, Copy)]
 pub(crate) struct Field {
     pub width: u32,
     pub value: u64,

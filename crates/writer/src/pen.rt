@@ -9,7 +9,7 @@ use wire::bits::bit_at;
 use wire::{Due, Run};
 
 // Where the next sample goes, and the run of samples before it.
-#[derive(Drop)]
+#[derive(Clone, Copy)]
 pub(crate) struct Pen {
     pub at: usize,
     pub run: Run,
