@@ -1,8 +1,5 @@
 -- Laws shaped like what the branches of `frame_refusal` leave to show: which row applies, where those before it do not.
-use Prim.Native.Nat.{◌≤◌, ◌<◌}
-use mathlib.Core.Path.{◌≡◌}
-use mathlib.Core.Bool.{Bool, true, false}
-use borrow.Author.Tests.{lt-ltb, le-ltb}
+use Rattle.std.proofs.Common.{◌≤◌, ◌<◌, ◌≡◌, Bool, true, false, lt-ltb, le-ltb}
 use Rattle.wire.specs.declared.frames.Frame.{Frame}
 use Rattle.refusals.specs.Refusals.{too_large, barred, miscounted, frame_refusal}
 

@@ -1,14 +1,8 @@
 -- Laws shaped like what the branches of `write` leave to show: what a call of the writer answers.
-use Prim.Native.Nat.{ℕ, ◌+◌, ◌-◌, ◌≤◌}
-use mathlib.Core.Path.{◌≡◌, refl, sym, ap, ◌∙◌}
-use mathlib.Core.Bool.{Bool, cond}
-use mathlib.Core.List.{List, ◌++◌, append_assoc, append-nil}
-use native.Mathlib.Nat.{zero-add, sub-zero}
-use native.Mathlib.Omega.{arith}
-use lib.Dec.{eqb}
-use lib.ListN.{length, take, drop, length-drop, drop_of_length-le}
-use lib.Seq.{sets, sets-eq, length-sets, take_all, take_at, drop-drop}
-use borrow.Author.Tests.{eq-eqb, ne_eqb}
+use Rattle.std.proofs.Common.{ℕ, ◌+◌, ◌-◌, ◌≤◌, ◌≡◌, refl, sym, ap, ◌∙◌, Bool, cond, List, ◌++◌, append_assoc, append-nil, zero-add, arith, eqb, length, take, drop, length-drop, drop_of_length-le, take_all, take_at, drop-drop, eq-eqb, ne_eqb}
+use Rattle.std.proofs.Math.Nat.{sub-zero}
+use Rattle.std.proofs.Math.Seq.{length-sets}
+use Rattle.std.proofs.lemmas.List.Edits.{sets, sets-eq}
 use Rattle.wire.specs.declared.frames.Frame.{Frame}
 use Rattle.wire.specs.Numbers.{longest_extended}
 use Rattle.writer.specs.declared.pen.Pen.{Pen}
@@ -32,8 +26,7 @@ middle c v i h l =
       append-nil,
       zero-add,
       drop-drop,
-      append_assoc,
-      append_assoc,
+      append_assoc (take i c) v (drop (i + length v) c),
     )
 
 module _ (f : Frame) (old : Bool) (c : List ℕ) (start no : ℕ) (own : no ≡ frame_refusal f old) where

@@ -1,12 +1,6 @@
 -- What is drawn is the image: the head as one field, the parts of a draft put together, and the whole.
-use Prim.Native.Nat.{ℕ, ◌+◌, ◌-◌, ◌*◌, ◌/◌, ◌%◌, ◌^◌, ◌<◌, ◌≤◌}
-use mathlib.Core.Path.{◌≡◌, sym, ap, ◌∙◌}
-use mathlib.Core.Bool.{Bool, false}
-use mathlib.Core.List.{List, ◌∷◌, ◌++◌}
-use native.Mathlib.Nat.{sub-zero}
-use native.Mathlib.Omega.{arith}
-use lib.ListN.{length, take}
-use borrow.Author.Rules.{rules}
+use Rattle.std.proofs.Common.{ℕ, ◌+◌, ◌-◌, ◌*◌, ◌/◌, ◌%◌, ◌^◌, ◌<◌, ◌≤◌, ◌≡◌, sym, ap, ◌∙◌, Bool, false, List, ◌∷◌, ◌++◌, arith, length, take, rules}
+use Rattle.std.proofs.Math.Nat.{sub-zero}
 use Rattle.wire.specs.declared.idents.BaseId.{BaseId}
 use Rattle.wire.specs.declared.idents.ExtId.{ExtId}
 use Rattle.wire.specs.declared.idents.Ident.TheVariants.{Base, Extended}

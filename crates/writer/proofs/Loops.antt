@@ -1,11 +1,6 @@
 -- The loops of the writer: what is left to do gives the same, and at the end nothing is left.
-use Prim.Native.Nat.{ℕ, suc, ◌+◌, ◌-◌, ◌<◌, ◌≤◌, zero-le}
-use mathlib.Core.Path.{◌≡◌, sym, ap, ◌∙◌}
-use mathlib.Core.List.{List, [], ◌∷◌}
-use native.Mathlib.Nat.{le_antisymm}
-use native.Mathlib.Numerals.{add-one}
-use lib.ListN.{length, drop, set, get_or, drop_of_length-le}
-use lib.Seq.{sets, drop-cons}
+use Rattle.std.proofs.Common.{ℕ, suc, ◌+◌, ◌-◌, ◌<◌, ◌≤◌, zero-le, ◌≡◌, sym, ap, ◌∙◌, List, [], ◌∷◌, le_antisymm, add-one, length, drop, set, get_or, drop_of_length-le, drop-cons}
+use Rattle.std.proofs.lemmas.List.Edits.{sets}
 use Rattle.wire.specs.Bits.{bit_at, bits}
 use Rattle.wire.proofs.BitsLaws.{bits-step}
 use Rattle.wire.specs.Stuffing.{Coded, all}
