@@ -1,6 +1,6 @@
 -- A byte that is skipped is left out on both sides; any other goes to the front.
 use Rattle.std.proofs.Common.{sym, ◌∙◌, arith}
-use Rattle.hear.proofs.Loops.{turn_start, turn-skipped, turn_offered, turn-end}
+use Rattle.hear.proofs.Loops.{turn-skipped, turn_offered}
 use Rattle.hear.proofs.samples.offered.Goals as goal
 use Rattle.hear.proofs.samples.offered.Goals.{then-not-is_skipped, else-not-is_skipped}
 
