@@ -8,5 +8,5 @@ use Rattle.hear.proofs.hear.Goals.{then-at-piece+in_ok-line, else-at-piece}
 pub loop-at-smaller : goal.loop-at-smaller
 loop-at-smaller g c =
     let on : c.loop-at.at ≤ c.next-f.result.at =
-        omega (arith, found_from c.loop-at.l c.args.piece.now c.loop-at.at, ap (λ (f : Found). f.at) c.next-f.ensures) in
+    omega (arith, found_from c.loop-at.l c.args.piece.now c.loop-at.at, ap (λ (f : Found). f.at) c.next-f.ensures) in
     elim c.if-at-piece.branch [ then-at-piece+in_ok-line w ↦ omega arith | else-at-piece w ↦ omega arith ]
