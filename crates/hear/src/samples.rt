@@ -5,18 +5,16 @@ ghost use Rattle.hear.specs.Samples.{is_skipped, sample_of, offered_of};
 fn is_skipped(b: u8) -> bool
     ensures { result ≡ is_skipped b }
 {
-    (b == b' ') | (b == b'\t') | (b == b'\r') | (b == b'\n')
+    matches!(b, b' ' | b'\t' | b'\r' | b'\n')
 }
 
 fn sample(b: u8) -> u8
     ensures { result ≡ sample_of b }
 {
-    if b == b'0' {
-        0
-    } else if b == b'1' {
-        1
-    } else {
-        b
+    match b {
+        b'0' => 0,
+        b'1' => 1,
+        _ => b,
     }
 }
 
@@ -27,15 +25,11 @@ pub(crate) fn offered(piece: &mut [u8], read: usize) -> usize
     ensures piece_after { take result piece.new ≡ offered_of (take read piece.old) }
 {
     let mut n = 0;
-    let mut i = 0;
-    while i < read {
+    for i in 0..read {
         let b = piece[i];
-        if is_skipped(b) {
-            i += 1;
-        } else {
+        if !is_skipped(b) {
             piece[n] = sample(b);
             n += 1;
-            i += 1;
         }
     }
     n

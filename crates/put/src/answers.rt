@@ -1,7 +1,7 @@
 // What a line is answered by.
 use crate::notation::read;
-use check::same;
-use libc::STDOUT_FILENO;
+use std::io;
+use std::io::Write;
 use wire::Frame;
 
 // `0` for a dominant sample and `1` for any other.
@@ -10,50 +10,48 @@ fn letter(b: u8) -> u8 {
 }
 
 fn letters(samples: &mut [u8]) {
-    let mut k = 0;
-    while k < samples.len() {
-        samples[k] = letter(samples[k]);
-        k += 1;
+    for b in samples.iter_mut() {
+        *b = letter(*b);
     }
 }
 
-fn print_front(s: &[u8], n: usize) {
-    if n <= s.len() {
-        io::write_all(STDOUT_FILENO, &s[0..n]);
+fn write_front(out: &mut impl Write, s: &[u8], n: usize) -> io::Result<()> {
+    match s.get(..n) {
+        Some(front) => out.write_all(front),
+        None => Ok(()),
     }
 }
 
 // The wire image, for which the capture has room, or the refusal.
-fn print_image(f: Frame, old: bool) {
+fn write_image(out: &mut impl Write, f: Frame, old: bool) -> io::Result<()> {
     let mut capture = [0u8; 160];
     let written = writer::write(f, old, &mut capture, 0);
     if written.refusal == 0 {
         letters(&mut capture);
-        print_front(&capture, written.bits);
+        write_front(out, &capture, written.bits)?;
+        out.write_all(b"\n")
     } else {
-        io::write_all(STDOUT_FILENO, b"refused ");
-        io::print_decimal(STDOUT_FILENO, written.refusal as u64);
+        writeln!(out, "refused {}", written.refusal)
     }
-    io::write_all(STDOUT_FILENO, b"\n");
 }
 
-fn print_answer(line: &[u8], old: bool) {
+fn write_answer(out: &mut impl Write, line: &[u8], old: bool) -> io::Result<()> {
     let reading = read(line);
     if reading.reads {
-        print_image(reading.frame, old);
+        write_image(out, reading.frame, old)
     } else {
-        io::write_all(STDOUT_FILENO, b"not a frame\n");
+        out.write_all(b"not a frame\n")
     }
 }
 
-// `old` marks old controllers. A line that sets the mark prints nothing; the mark for the lines after this one is handed back.
-pub(crate) fn answer(line: &[u8], old: bool) -> bool {
-    if same(line, b"old on") {
-        true
-    } else if same(line, b"old off") {
-        false
-    } else {
-        print_answer(line, old);
-        old
+// `old` marks old controllers. A line that sets the mark writes nothing; the mark for the lines after this one is handed back.
+pub(crate) fn answer(out: &mut impl Write, line: &[u8], old: bool) -> io::Result<bool> {
+    match line {
+        b"old on" => Ok(true),
+        b"old off" => Ok(false),
+        _ => {
+            write_answer(out, line, old)?;
+            Ok(old)
+        }
     }
 }

@@ -10,20 +10,11 @@ pub(crate) fn letter(s: &[u8], at: usize) -> u8 {
 pub(crate) fn digit(b: u8) -> u8
     ensures { result ≤ 16 }
 {
-    if b < b'0' {
-        16
-    } else if b <= b'9' {
-        b - b'0'
-    } else if b < b'A' {
-        16
-    } else if b <= b'F' {
-        b - b'A' + 10
-    } else if b < b'a' {
-        16
-    } else if b <= b'f' {
-        b - b'a' + 10
-    } else {
-        16
+    match b {
+        b'0'..=b'9' => b - b'0',
+        b'A'..=b'F' => b - b'A' + 10,
+        b'a'..=b'f' => b - b'a' + 10,
+        _ => 16,
     }
 }
 
@@ -32,14 +23,12 @@ pub(crate) fn digits(s: &[u8], from: usize) -> usize
     requires { from ≤ 64 }
     ensures { result ≤ 17 }
 {
-    let mut n = 0;
-    while n < 17 {
+    for n in 0..17 {
         if digit(letter(s, from + n)) == 16 {
             return n;
         }
-        n += 1;
     }
-    n
+    17
 }
 
 // The number that hex digits stand for, of which there are at most 8.
@@ -47,10 +36,8 @@ pub(crate) fn number(s: &[u8], from: usize, n: usize) -> u32
     requires { (from ≤ 64) × (n ≤ 8) }
 {
     let mut value = 0u32;
-    let mut k = 0;
-    while k < n {
+    for k in 0..n {
         value = value % 268435456 * 16 + (digit(letter(s, from + k)) % 16) as u32;
-        k += 1;
     }
     value
 }

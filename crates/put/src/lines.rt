@@ -2,23 +2,20 @@
 ghost use Rattle.std.specs.Prelude.{◌≤◌};
 
 use crate::answers::answer;
-use libc::STDIN_FILENO;
+use std::io;
+use std::io::{Read, Write};
 
 // So many bytes of a line are kept: more than any frame takes.
 const ROOM: usize = 64;
+
+// So many bytes are read at a time, at most.
+const PIECE: usize = 65536;
 
 // How many bytes of the line that is not at its end yet have come, and whether old controllers are marked for it.
 #[derive(Drop)]
 struct SoFar {
     pub came: usize,
     pub old: bool,
-}
-
-// What came of one read, and whether to go on.
-#[derive(Drop)]
-struct Piece {
-    pub more: bool,
-    pub so_far: SoFar,
 }
 
 // How long a line is without the CR that it may end in.
@@ -37,85 +34,70 @@ fn trimmed(line: &[u8], came: usize) -> usize
 }
 
 // A line is at its end; the mark for the next. A line that was too long to keep does not read, as an empty one does not.
-fn end(line: &[u8], so_far: SoFar) -> bool {
+fn end(out: &mut impl Write, line: &[u8], so_far: SoFar) -> io::Result<bool> {
     let n = trimmed(line, so_far.came);
-    if n <= line.len() {
-        answer(&line[0..n], so_far.old)
-    } else {
-        answer(b"", so_far.old)
-    }
+    answer(out, line.get(..n).unwrap_or(b""), so_far.old)
 }
 
 fn keep(line: &mut [u8], at: usize, b: u8) {
-    if at < line.len() {
-        line[at] = b;
+    if let Some(place) = line.get_mut(at) {
+        *place = b;
     }
 }
 
 // One byte more. The bytes of a line are counted up to one more than there is room for.
-fn take(line: &mut [u8], so_far: SoFar, b: u8) -> SoFar {
+fn take(out: &mut impl Write, line: &mut [u8], so_far: SoFar, b: u8) -> io::Result<SoFar> {
     let came = so_far.came;
     let old = so_far.old;
     if b == b'\n' {
-        SoFar {
-            came: 0,
-            old: end(line, so_far),
-        }
+        let old = end(out, line, so_far)?;
+        Ok(SoFar { came: 0, old })
     } else if came < ROOM {
         keep(line, came, b);
-        SoFar {
+        Ok(SoFar {
             came: came + 1,
             old,
-        }
+        })
     } else {
-        SoFar {
+        Ok(SoFar {
             came: ROOM + 1,
             old,
-        }
+        })
     }
 }
 
-fn take_all(line: &mut [u8], before: SoFar, piece: &[u8]) -> SoFar {
+fn take_all(
+    out: &mut impl Write,
+    line: &mut [u8],
+    before: SoFar,
+    piece: &[u8],
+) -> io::Result<SoFar> {
     let mut so_far = before;
-    let mut k = 0;
-    while k < piece.len() {
-        so_far = take(line, so_far, piece[k]);
-        k += 1;
+    for b in piece {
+        so_far = take(out, line, so_far, *b)?;
     }
-    so_far
+    Ok(so_far)
 }
 
-// Reads once.
-fn read_some(line: &mut [u8], before: SoFar) -> Piece {
-    let mut buffer = io::large_buffer();
-    let got = libc::read(STDIN_FILENO, &mut buffer);
-    let n = io::count(got, &buffer);
-    let so_far = take_all(line, before, &buffer[..n]);
-    Piece {
-        more: 0 < n,
-        so_far,
-    }
-}
-
-// Every line of standard input. A loop has to end, and nothing says that the input does: so the turns are counted down, from a number
-// that no run uses up.
-pub(crate) fn answer_all() {
+// Every line of the input; what a piece is answered by is written before the next is read. A loop has to end, and nothing says that the
+// input does: so the pieces are counted, up to a number that no run reaches.
+pub(crate) fn answer_all(input: &mut impl Read, out: &mut impl Write) -> io::Result<()> {
+    let mut piece = [0u8; PIECE];
     let mut line = [0u8; ROOM];
     let mut so_far = SoFar {
         came: 0,
         old: false,
     };
-    let mut turns = u64::MAX;
-    while 0 < turns {
-        let piece = read_some(&mut line, so_far);
-        so_far = piece.so_far;
-        if piece.more {
-            turns -= 1;
-        } else {
-            turns = 0;
+    for _ in 0..u64::MAX {
+        let n = input.read(&mut piece)?;
+        if n == 0 {
+            break;
         }
+        so_far = take_all(out, &mut line, so_far, &piece[..n])?;
+        out.flush()?;
     }
     if 0 < so_far.came {
-        end(&line, so_far);
+        end(out, &line, so_far)?;
     }
+    out.flush()
 }

@@ -7,6 +7,10 @@ mod hex;
 mod lines;
 mod notation;
 
-fn main() {
-    lines::answer_all();
+use std::io;
+use std::io::BufWriter;
+
+fn main(rt: HostRuntime) -> io::Result<()> {
+    let mut out = BufWriter::new(rt.alloc(), rt.stdout())?;
+    lines::answer_all(&mut rt.stdin(), &mut out)
 }

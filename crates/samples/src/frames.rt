@@ -1,5 +1,5 @@
 // The frames of the samples, and a frame in words.
-use crate::words::Words;
+use std::alloc::AllocError;
 use wire::{BaseId, ExtId, Frame, Ident};
 
 // A base data frame; its bytes are as many of 11 22 .. 88 as are given.
@@ -36,44 +36,34 @@ pub(crate) fn extended_data(identifier: u32) -> Frame {
     }
 }
 
-fn kind(words: Words, remote: bool) -> Words {
-    if remote {
-        words.say(b"remote frame ")
-    } else {
-        words.say(b"data frame ")
-    }
+fn kind(remote: bool) -> &'static str {
+    if remote { "remote frame" } else { "data frame" }
 }
 
 // 3 digits for a base identifier, 8 for an extended one.
-fn name(words: Words, ident: Ident, remote: bool) -> Words {
+fn name(words: &mut String, ident: &Ident, remote: bool) -> Result<(), AllocError> {
+    let kind = kind(remote);
     match ident {
-        Ident::Base(i) => kind(words.say(b"base "), remote).hex(i.0 as u64, 3),
-        Ident::Extended(i) => kind(words.say(b"extended "), remote).hex(i.0 as u64, 8),
+        Ident::Base(i) => write!(words, "base {kind} {:03x}", i.0),
+        Ident::Extended(i) => write!(words, "extended {kind} {:08x}", i.0),
     }
 }
 
 // The bytes that are given, two digits for each.
-fn bytes(words: Words, given: [u8; 8], count: u8) -> Words {
-    let n = count as usize;
-    let mut digits = words;
-    let mut i = 0;
-    while i < 8 {
-        if i < n {
-            digits = digits.hex(given[i] as u64, 2);
-        }
-        i += 1;
+fn bytes(words: &mut String, f: &Frame) -> Result<(), AllocError> {
+    for b in f.bytes.iter().take(f.count as usize) {
+        write!(words, "{b:02x}")?;
     }
-    digits
+    Ok(())
 }
 
-pub(crate) fn frame(words: Words, f: Frame) -> Words {
-    let ident = f.ident;
-    let given = f.bytes;
-    let code = name(words, ident, f.remote).number(b", code ", f.code as u64);
+pub(crate) fn frame(words: &mut String, f: &Frame) -> Result<(), AllocError> {
+    name(words, &f.ident, f.remote)?;
+    write!(words, ", code {}", f.code)?;
     if f.count == 0 {
-        code.say(b", no bytes")
+        write!(words, ", no bytes")
     } else {
-        let count = code.number(b", ", f.count as u64).say(b" bytes ");
-        bytes(count, given, f.count)
+        write!(words, ", {} bytes ", f.count)?;
+        bytes(words, f)
     }
 }

@@ -1,15 +1,15 @@
 // A listener, and what it answered so far.
 use crate::frames::frame;
 use crate::images::ELEVEN;
-use crate::words::Words;
 use listener::{Answer, Listener};
 use moves::{Fault, Place};
+use std::alloc::{AllocError, Global};
 use wire::Received;
 
 #[derive(Drop)]
 pub(crate) struct Hearing {
     listener: Listener,
-    answers: Words,
+    answers: String,
 }
 
 // The letters `0` and `1` are the samples 0 and 1; any other byte is offered as it is.
@@ -22,90 +22,92 @@ fn sample(letter: u8) -> u8 {
 }
 
 // Between one answer and the next.
-fn then(answers: Words) -> Words {
+fn then(answers: &mut String) -> Result<(), AllocError> {
     if answers.is_empty() {
-        answers
+        Ok(())
     } else {
-        answers.say(b", then ")
+        answers.push_str(", then ")
     }
 }
 
-fn fault(answers: Words, x: Fault) -> Words {
+fn fault(x: &Fault) -> &'static str {
     match x {
-        Fault::StuffError => answers.say(b"stuff error"),
-        Fault::FormError => answers.say(b"form error"),
-        Fault::CrcError => answers.say(b"CRC error"),
-        Fault::Overload => answers.say(b"overload"),
-        Fault::NewerFormat => answers.say(b"newer format begun"),
+        Fault::StuffError => "stuff error",
+        Fault::FormError => "form error",
+        Fault::CrcError => "CRC error",
+        Fault::Overload => "overload",
+        Fault::NewerFormat => "newer format begun",
     }
 }
 
 // One answer more; `received` is what was handed out, if anything was.
-fn answered(answers: Words, answer: Answer, received: Received) -> Words {
+fn answered(answers: &mut String, answer: &Answer, received: &Received) -> Result<(), AllocError> {
     match answer {
-        Answer::Nothing => answers,
+        Answer::Nothing => Ok(()),
         Answer::Handed => {
-            let f = received.frame;
-            frame(then(answers), f)
+            then(answers)?;
+            frame(answers, &received.frame)
         }
-        Answer::Trouble(x) => fault(then(answers), x),
-        Answer::Refused(n) => then(answers).number(b"refusal ", n as u64),
+        Answer::Trouble(x) => {
+            then(answers)?;
+            answers.push_str(fault(x))
+        }
+        Answer::Refused(n) => {
+            then(answers)?;
+            write!(answers, "refusal {n}")
+        }
     }
 }
 
 impl Hearing {
     // A new listener.
-    pub(crate) fn new() -> Hearing {
-        let listener = Listener::new();
-        let answers = Words::empty();
-        Hearing { listener, answers }
+    pub(crate) fn new(alloc: Global) -> Hearing {
+        Hearing {
+            listener: Listener::new(),
+            answers: String::new(alloc),
+        }
     }
 
     // A new one, made ready by eleven recessive samples.
-    pub(crate) fn ready() -> Hearing {
-        Hearing::new().hear(&ELEVEN)
+    pub(crate) fn ready(alloc: Global) -> Result<Hearing, AllocError> {
+        Hearing::new(alloc).hear(ELEVEN.as_bytes())
     }
 
     // One sample more.
-    fn step(self, b: u8) -> Hearing {
-        let l = self.listener;
-        let answers = self.answers;
-        let heard = l.hear(b);
-        let answer = heard.answer;
-        let received = heard.received;
-        let next = heard.next;
-        let more = answered(answers, answer, received);
-        Hearing {
-            listener: next,
-            answers: more,
-        }
+    fn step(self, b: u8) -> Result<Hearing, AllocError> {
+        let Hearing {
+            listener,
+            mut answers,
+        } = self;
+        let heard = listener.hear(b);
+        answered(&mut answers, &heard.answer, &heard.received)?;
+        Ok(Hearing {
+            listener: heard.next,
+            answers,
+        })
     }
 
     // More of the line: letters, or samples as the writer leaves them.
-    pub(crate) fn hear(self, letters: &[u8]) -> Hearing {
+    pub(crate) fn hear(self, letters: &[u8]) -> Result<Hearing, AllocError> {
         let mut hearing = self;
-        let mut i = 0;
-        while i < letters.len() {
-            hearing = hearing.step(sample(letters[i]));
-            i += 1;
+        for letter in letters {
+            hearing = hearing.step(sample(*letter))?;
         }
-        hearing
+        Ok(hearing)
     }
 
     // Every answer but "nothing", or where there was none, whether it is waiting.
-    pub(crate) fn said(self) -> Words {
-        let listener = self.listener;
-        let core = listener.core;
-        let place = core.place;
-        let answers = self.answers;
+    pub(crate) fn said(self) -> Result<String, AllocError> {
+        let Hearing {
+            listener,
+            mut answers,
+        } = self;
         if answers.is_empty() {
-            if let Place::Waiting = place {
-                answers.say(b"nothing, still waiting")
-            } else {
-                answers.say(b"nothing")
+            answers.push_str("nothing")?;
+            if let Place::Waiting = listener.core.place {
+                answers.push_str(", still waiting")?;
             }
-        } else {
-            answers
         }
+        Ok(answers)
     }
 }

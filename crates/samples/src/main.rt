@@ -9,27 +9,31 @@ mod images;
 mod listening;
 mod reading_back;
 mod tally;
-mod words;
 mod writing;
 
+use std::io;
+use std::io::BufWriter;
 use tally::Tally;
 
 // In document 01's order ("Samples to try"); then those of the requests.
-fn main() {
-    let t = writing::identifiers(Tally::new());
-    let t = writing::codes(t);
-    let t = listening::code_15(t);
-    let t = writing::captures(t);
-    let t = listening::ready(t);
-    let t = listening::between(t);
-    let t = counting::groups(t);
-    let t = reading_back::ends_dominant(t);
-    let t = reading_back::ends_recessive(t);
-    let t = listening::newer(t);
-    let t = counting::asking(t);
-    let t = reading_back::code_12(t);
-    let t = writing::codes_to_15(t);
-    let t = writing::identifiers_for_old(t);
-    let t = writing::frames_for_old(t);
-    t.print();
+fn main(rt: HostRuntime) -> io::Result<()> {
+    let alloc = rt.alloc();
+    let out = BufWriter::new(alloc, rt.stdout())?;
+    let mut t = Tally::new(out);
+    writing::identifiers(alloc, &mut t)?;
+    writing::codes(alloc, &mut t)?;
+    listening::code_15(alloc, &mut t)?;
+    writing::captures(alloc, &mut t)?;
+    listening::ready(alloc, &mut t)?;
+    listening::between(alloc, &mut t)?;
+    counting::groups(alloc, &mut t)?;
+    reading_back::ends_dominant(alloc, &mut t)?;
+    reading_back::ends_recessive(alloc, &mut t)?;
+    listening::newer(alloc, &mut t)?;
+    counting::asking(alloc, &mut t)?;
+    reading_back::code_12(alloc, &mut t)?;
+    writing::codes_to_15(alloc, &mut t)?;
+    writing::identifiers_for_old(alloc, &mut t)?;
+    writing::frames_for_old(alloc, &mut t)?;
+    t.print()
 }

@@ -4,74 +4,77 @@ use crate::frames::base_data;
 use crate::hearing::Hearing;
 use crate::images::{BLANK, IMAGE_009, IMAGE_017, IMAGE_CODE_12, LONGEST};
 use crate::tally::Tally;
-use crate::words::Words;
+use std::alloc::{AllocError, Global};
+use std::io;
 use wire::Frame;
 
-fn letter(sample: u8) -> u8 {
+fn letter(sample: u8) -> char {
     match sample {
-        0 => b'0',
-        1 => b'1',
-        _ => b'?',
+        0 => '0',
+        1 => '1',
+        _ => '?',
     }
 }
 
-// The first `n` samples, in `0` and `1`.
-fn letters(samples: &[u8], n: usize) -> Words {
-    let mut words = Words::empty();
-    let mut i = 0;
-    while i < samples.len() {
-        if i < n {
-            words = words.letter(letter(samples[i]));
-        }
-        i += 1;
+// The samples, in `0` and `1`.
+fn letters(alloc: Global, samples: &[u8]) -> Result<String, AllocError> {
+    let mut words = String::new(alloc);
+    for sample in samples {
+        words.push(letter(*sample))?;
     }
-    words
+    Ok(words)
 }
 
-// What a listener that is ready makes of the first `n` samples.
-fn heard(samples: &[u8], n: usize) -> Words {
-    if n <= samples.len() {
-        Hearing::ready().hear(&samples[0..n]).said()
-    } else {
-        Words::empty()
-    }
+// What a listener that is ready makes of the samples.
+fn heard(alloc: Global, samples: &[u8]) -> Result<String, AllocError> {
+    Hearing::ready(alloc)?.hear(samples)?.said()
 }
 
-fn written_and_read(tally: Tally, name: &[u8], frame: Frame, image: &[u8], read: &[u8]) -> Tally {
+fn written_and_read(
+    alloc: Global,
+    tally: &mut Tally,
+    name: &str,
+    frame: Frame,
+    image: &str,
+    read: &str,
+) -> io::Result<()> {
     let mut capture = [BLANK; LONGEST];
     let bits = writer::write(frame, false, &mut capture, 0).bits;
-    tally
-        .sample(name, letters(&capture, bits), image)
-        .sample(b"read that image back", heard(&capture, bits), read)
+    let written = capture.get(..bits).unwrap_or(&[]);
+    tally.sample(name, &letters(alloc, written)?, image)?;
+    tally.sample("read that image back", &heard(alloc, written)?, read)
 }
 
-pub(crate) fn ends_dominant(tally: Tally) -> Tally {
+pub(crate) fn ends_dominant(alloc: Global, tally: &mut Tally) -> io::Result<()> {
     written_and_read(
+        alloc,
         tally,
-        b"write frame 009, whose CRC 7C20 ends in five dominant bits",
+        "write frame 009, whose CRC 7C20 ends in five dominant bits",
         base_data(0x009, 0, 0),
-        &IMAGE_009,
-        b"base data frame 009, code 0, no bytes",
+        IMAGE_009,
+        "base data frame 009, code 0, no bytes",
     )
 }
 
-pub(crate) fn ends_recessive(tally: Tally) -> Tally {
+pub(crate) fn ends_recessive(alloc: Global, tally: &mut Tally) -> io::Result<()> {
     written_and_read(
+        alloc,
         tally,
-        b"write frame 017, whose CRC 521F ends in five recessive bits",
+        "write frame 017, whose CRC 521F ends in five recessive bits",
         base_data(0x017, 0, 0),
-        &IMAGE_017,
-        b"base data frame 017, code 0, no bytes",
+        IMAGE_017,
+        "base data frame 017, code 0, no bytes",
     )
 }
 
 // W-207: code 12 means 8 bytes, and stays 12.
-pub(crate) fn code_12(tally: Tally) -> Tally {
+pub(crate) fn code_12(alloc: Global, tally: &mut Tally) -> io::Result<()> {
     written_and_read(
+        alloc,
         tally,
-        b"write a frame with length code 12 and 8 bytes",
+        "write a frame with length code 12 and 8 bytes",
         base_data(0x123, 12, 8),
-        &IMAGE_CODE_12,
-        b"base data frame 123, code 12, 8 bytes 1122334455667788",
+        IMAGE_CODE_12,
+        "base data frame 123, code 12, 8 bytes 1122334455667788",
     )
 }
