@@ -1,14 +1,9 @@
 -- The caution: a frame that the table hands out came from an image, sampled bit after bit right behind ten recessive samples. Only the
 -- sixth end-of-frame bit hands one out, and what its place says of the samples so far is that image.
-use Prim.Native.Nat.{ℕ, ◌-◌, ◌<◌, ◌≤◌}
-use mathlib.Core.Path.{◌≡◌, refl, sym, ap, ap₂, subst, ◌∙◌}
-use mathlib.Core.Bool.{Bool, true, false, false≢true}
-use mathlib.Core.List.{List, [], ◌∷◌, ◌++◌, append_assoc}
-use native.Mathlib.Omega.{arith}
-use lib.Dec.{eqb, ltb}
-use lib.ListN.{length, take, replicate, length-append}
-use lib.Seq.{take_at, take-append_seam}
-use borrow.Author.Tests.{eqb-true, eqb-false}
+use Rattle.std.proofs.Common.{ℕ, ◌-◌, ◌<◌, ◌≤◌, ◌≡◌, refl, sym, ap, ap₂, subst, ◌∙◌, Bool, true, false, List, [], ◌∷◌, ◌++◌, append_assoc, arith, eqb, ltb, length, take, replicate, length-append, take_at, eqb-true}
+use mathlib.Core.Bool.{false≢true}
+use lib.Seq.{take-append_seam}
+use borrow.Author.Tests.{eqb-false}
 use Rattle.wire.specs.declared.frames.Received.{Received}
 use Rattle.wire.specs.Numbers.{room}
 use Rattle.wire.proofs.BitsLaws.{AllBits}

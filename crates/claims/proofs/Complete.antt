@@ -1,13 +1,7 @@
 -- THE CENTRAL LEMMA: an image, heard where a dominant bit is a start of frame, says nothing and then its frame at the last but one
 -- sample. By the definition of an image: stuffed bits of fields, and a closing.
-use Prim.Native.Nat.{ℕ, ◌+◌}
-use mathlib.Core.Path.{◌≡◌, refl, sym, ap, ap₂, subst, ◌∙◌}
-use mathlib.Core.Bool.{Bool, true, false}
-use mathlib.Core.List.{List, [], ◌∷◌, ◌++◌, append-nil, append_assoc}
-use native.Mathlib.Omega.{arith}
-use lib.Dec.{eqb}
-use lib.ListN.{length, drop, replicate, length-append, replicate-append-replicate}
-use borrow.Author.Tests.{eq-eqb}
+use Rattle.std.proofs.Common.{ℕ, ◌+◌, ◌≡◌, refl, sym, ap, ap₂, subst, ◌∙◌, Bool, true, false, List, [], ◌∷◌, ◌++◌, append-nil, append_assoc, arith, eqb, length, drop, replicate, length-append, eq-eqb}
+use lib.ListN.{replicate-append-replicate}
 use Rattle.wire.specs.declared.runs.Run.{Run}
 use Rattle.wire.specs.declared.frames.Received.{Received}
 use Rattle.wire.specs.Numbers.{five}

@@ -1,15 +1,7 @@
 -- The reader of the code, over its enum of fields and its registers, follows the layout of frames: the one place where the two meet.
-use Prim.Native.Nat.{ℕ, zero, suc, ◌+◌, ◌*◌, ◌%◌, ◌^◌, ◌<◌, ◌≤◌}
-use mathlib.Core.Path.{◌≡◌, refl, sym, ap, ◌∙◌}
-use mathlib.Core.Bool.{Bool, true, false, cond}
-use mathlib.Core.List.{List, [], ◌∷◌}
-use native.Mathlib.Omega.{arith}
-use native.Mathlib.Numerals.{add-one}
-use native.Mathlib.Nat.{mod-eq_of_lt}
-use lib.ListN.{length, take, drop, set}
+use Rattle.std.proofs.Common.{ℕ, zero, suc, ◌+◌, ◌*◌, ◌%◌, ◌^◌, ◌<◌, ◌≤◌, ◌≡◌, refl, sym, ap, ◌∙◌, Bool, true, false, cond, List, [], ◌∷◌, arith, add-one, mod-eq_of_lt, length, take, drop, set, eqb, lt-ltb, le-ltb, eqb-true}
 use lib.Seq.{sets, sets-eq, take-append_seam}
-use lib.Dec.{eqb}
-use borrow.Author.Tests.{lt-ltb, le-ltb, eqb-true, eqb-false}
+use borrow.Author.Tests.{eqb-false}
 use Rattle.wire.specs.Numbers.{room, srr_noted, r0_noted, base_width, lower_width, crc_width}
 use Rattle.wire.specs.Stuffing.{opposite}
 use Rattle.wire.specs.Fields.{noted_sum, joined, carried}

@@ -1,13 +1,6 @@
 -- The ledger's promises are kept: each history is split at its recoveries, and the ledger over either kind of split is known.
-use Prim.Native.Nat.{ℕ, ◌≤◌, ◌<◌}
-use native.Mathlib.Omega.{arith}
-use mathlib.Core.Path.{◌≡◌, refl}
-use mathlib.Core.Logic.{◌↔◌, ⊎_elim}
-use mathlib.Core.Bool.{Bool, true, false, cond}
-use mathlib.Core.List.{List, [], ◌∷◌, ◌++◌}
-use lib.ListN.{length, replicate}
+use Rattle.std.proofs.Common.{ℕ, ◌≤◌, ◌<◌, arith, ◌≡◌, refl, ◌↔◌, ⊎_elim, Bool, true, false, cond, List, [], ◌∷◌, ◌++◌, length, replicate, lt-ltb, le-ltb}
 use lib.Seq.{take-length}
-use borrow.Author.Tests.{lt-ltb, le-ltb}
 use Rattle.counts.specs.Numbers.{off_above}
 use Rattle.counts.specs.Counts.{is_passive}
 use Rattle.ledger.specs.declared.state.State.TheVariants.{Active, Passive, BusOff}

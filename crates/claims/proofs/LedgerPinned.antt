@@ -1,7 +1,5 @@
 -- The ledger's promise pins down how a station stands: of any history there is one split, and it gives every number.
-use mathlib.Core.Path.{◌≡◌, sym, ◌∙◌}
-use mathlib.Core.Logic.{⊎_elim}
-use mathlib.Core.List.{List}
+use Rattle.std.proofs.Common.{◌≡◌, sym, ◌∙◌, ⊎_elim, List}
 use Rattle.proving.specs.Pinning.{Pinned}
 use Rattle.ledger.specs.declared.event.Event.{Event}
 use Rattle.claims.specs.declared.ledger_history.Standing.{Standing}

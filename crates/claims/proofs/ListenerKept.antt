@@ -1,13 +1,6 @@
 -- The listener's promises are kept.
-use Prim.Native.Nat.{ℕ, ◌<◌, ◌≤◌}
-use mathlib.Core.Path.{◌≡◌, refl, sym, ap, ◌∙◌}
-use mathlib.Core.Bool.{Bool, true, false, false≢true, true≢false}
-use mathlib.Core.Logic.{◌↔◌}
-use mathlib.Core.List.{List, [], ◌∷◌, ◌++◌}
-use native.Mathlib.Omega.{arith}
-use lib.Dec.{ltb}
-use lib.ListN.{take}
-use borrow.Author.Tests.{le-ltb, ltb-true, ltb-false}
+use Rattle.std.proofs.Common.{ℕ, ◌<◌, ◌≤◌, ◌≡◌, refl, sym, ap, ◌∙◌, Bool, true, false, true≢false, ◌↔◌, List, [], ◌∷◌, ◌++◌, arith, ltb, take, le-ltb, ltb-true, ltb-false}
+use mathlib.Core.Bool.{false≢true}
 use Rattle.wire.specs.Bits.{xors}
 use Rattle.wire.specs.Crc.{crc_step}
 use Rattle.moves.specs.declared.places.Place.TheVariants.{Ready, Intermission}

@@ -1,13 +1,8 @@
 -- What each place of the table says of the samples so far: where ten recessive samples ended, and what was sampled since. It is kept by
 -- every sample.
-use Prim.Native.Nat.{ℕ, ◌+◌, ◌-◌, ◌<◌, ◌≤◌}
-use mathlib.Core.Path.{◌≡◌, refl, sym, ap, ap₂, subst, ◌∙◌}
-use mathlib.Core.Bool.{Bool, true, false, cond}
-use mathlib.Core.List.{List, [], ◌∷◌, ◌++◌, append-nil, append_assoc}
-use native.Mathlib.Omega.{arith}
-use lib.Dec.{eqb, leb, ltb, lit<}
-use lib.ListN.{drop, replicate-append-replicate}
-use borrow.Author.Tests.{eqb-true, eqb-false, ltb-false, leb-true}
+use Rattle.std.proofs.Common.{ℕ, ◌+◌, ◌-◌, ◌<◌, ◌≤◌, ◌≡◌, refl, sym, ap, ap₂, subst, ◌∙◌, Bool, true, false, cond, List, [], ◌∷◌, ◌++◌, append-nil, append_assoc, arith, eqb, leb, ltb, lit<, drop, eqb-true, ltb-false, leb-true}
+use lib.ListN.{replicate-append-replicate}
+use borrow.Author.Tests.{eqb-false}
 use Rattle.wire.specs.Numbers.{five, idle}
 use Rattle.wire.proofs.BitsLaws.{AllBits, all_bits-append}
 use Rattle.wire.specs.Stuffing.{none, ran_from, stuff_from}

@@ -1,10 +1,5 @@
 -- Every record reached from a new one stands where the table does, and keeps its ranges; so its calls say what the table says.
-use Prim.Native.Nat.{ℕ, ◌<◌}
-use mathlib.Core.Path.{◌≡◌, refl, sym, ap, ap₂, subst, ◌∙◌}
-use mathlib.Core.Bool.{Bool, true, false, cond}
-use mathlib.Core.List.{List, [], ◌∷◌, ◌++◌, append-nil, append_assoc}
-use lib.Dec.{ltb}
-use borrow.Author.Tests.{lt-ltb, ltb-true}
+use Rattle.std.proofs.Common.{ℕ, ◌<◌, ◌≡◌, refl, sym, ap, ap₂, subst, ◌∙◌, Bool, true, false, cond, List, [], ◌∷◌, ◌++◌, append-nil, append_assoc, ltb, lt-ltb, ltb-true}
 use Rattle.wire.proofs.BitsLaws.{AllBits, all_bits-append}
 use Rattle.line.specs.declared.cores.Core.{Core}
 use Rattle.line.specs.declared.cores.Event.{Event}

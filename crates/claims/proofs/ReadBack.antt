@@ -1,12 +1,6 @@
 -- A frame that the writer takes is sent as the image of the frame that is read back, which is legal: the writer's refusals are what
 -- makes it so.
-use Prim.Native.Nat.{ℕ, ◌-◌, ◌≤◌}
-use mathlib.Core.Path.{◌≡◌, refl, sym, ap, subst, ◌∙◌}
-use mathlib.Core.Bool.{false}
-use mathlib.Core.List.{◌++◌}
-use native.Mathlib.Omega.{arith}
-use lib.ListN.{length, take, replicate, length-take}
-use lib.Seq.{take_at}
+use Rattle.std.proofs.Common.{ℕ, ◌-◌, ◌≤◌, ◌≡◌, refl, sym, ap, subst, ◌∙◌, false, ◌++◌, arith, length, take, replicate, length-take, take_at}
 use Rattle.wire.specs.declared.idents.Ident.{Ident}
 use Rattle.wire.specs.declared.idents.Ident.TheVariants.{Base, Extended}
 use Rattle.wire.specs.declared.frames.Frame.{Frame}

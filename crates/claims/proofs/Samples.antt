@@ -1,5 +1,5 @@
 -- The samples of the table hold, each by computing the definitions.
-use mathlib.Core.Path.{refl}
+use Rattle.std.proofs.Common.{refl}
 use Rattle.wire.specs.Bits.{bits, xors}
 use Rattle.wire.specs.Crc.{crc_step}
 use Rattle.ledger.specs.Rules.{change, next}

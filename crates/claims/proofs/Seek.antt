@@ -1,11 +1,8 @@
 -- What is found in a capture, from what the calls say: samples that say nothing are passed over, and a frame that is handed out behind
 -- them is found where it is. By induction over how many say nothing.
-use Prim.Native.Nat.{ℕ, zero, suc, ◌+◌, ◌-◌}
-use mathlib.Core.Path.{◌≡◌, refl, sym, ap, ◌∙◌}
-use mathlib.Core.Bool.{true}
-use mathlib.Core.List.{List, [], ◌∷◌, ◌++◌, head-eq_of_cons-eq, tail-eq_of_cons-eq}
-use native.Mathlib.Omega.{arith}
-use lib.ListN.{length, take, replicate, length-append, length-replicate}
+use Rattle.std.proofs.Common.{ℕ, zero, suc, ◌+◌, ◌-◌, ◌≡◌, refl, sym, ap, ◌∙◌, true, List, [], ◌∷◌, ◌++◌, arith, length, take, replicate, length-append}
+use mathlib.Core.List.{head-eq_of_cons-eq, tail-eq_of_cons-eq}
+use lib.ListN.{length-replicate}
 use Rattle.wire.specs.declared.frames.Received.{Received}
 use Rattle.moves.specs.declared.places.Fault.TheVariants.{StuffError, FormError, CrcError, Overload, NewerFormat}
 use Rattle.listener.specs.declared.listeners.Listener.{Listener}

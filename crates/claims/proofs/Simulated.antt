@@ -1,13 +1,8 @@
 -- The code's reader, bit by bit, reads as the reader of the layout does.
-use Prim.Native.Nat.{ℕ, suc, ◌+◌, ◌-◌, ◌*◌, ◌^◌, ◌<◌, ◌≤◌}
-use mathlib.Core.Path.{◌≡◌, refl, sym, ap, subst, ◌∙◌}
-use mathlib.Core.Bool.{Bool, true, false, cond, false≢true}
-use mathlib.Core.List.{List}
-use native.Mathlib.Omega.{arith}
-use native.Mathlib.Nat.{mod-eq_of_lt, pow-suc, pow-le-pow_right}
+use Rattle.std.proofs.Common.{ℕ, suc, ◌+◌, ◌-◌, ◌*◌, ◌^◌, ◌<◌, ◌≤◌, ◌≡◌, refl, sym, ap, subst, ◌∙◌, Bool, true, false, cond, List, arith, mod-eq_of_lt, pow-suc, eqb, ltb, lit<, ltb-false, le-ltb}
+use mathlib.Core.Bool.{false≢true}
+use native.Mathlib.Nat.{pow-le-pow_right}
 use lib.Arith.{digits_lt}
-use lib.Dec.{eqb, ltb, lit<}
-use borrow.Author.Tests.{ltb-false, le-ltb}
 use Rattle.wire.specs.Layout.{Layout, done, part, newer, is_newer, Walker, wide, took, Got, frames}
 use Rattle.wire.proofs.LayoutLaws.{Open, open_part, Stood}
 use Rattle.reader.specs.declared.fields.Field.{Field}

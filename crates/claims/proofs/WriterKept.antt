@@ -1,8 +1,5 @@
 -- The writer's promises are kept: by the laws of its contract, and by the central lemma for what is read back.
-use Prim.Native.Nat.{ℕ}
-use mathlib.Core.Path.{◌≡◌, ap, ◌∙◌}
-use mathlib.Core.Bool.{Bool}
-use mathlib.Core.List.{List}
+use Rattle.std.proofs.Common.{ℕ, ◌≡◌, ap, ◌∙◌, Bool, List}
 use Rattle.wire.specs.declared.frames.Frame.{Frame}
 use Rattle.wire.proofs.ImageLaws.{image_length}
 use Rattle.writer.specs.declared.written.Written.{Written}

@@ -1,9 +1,5 @@
 -- The loop over a capture: what is left to seek gives the same, and each way out of the loop is the answer.
-use Prim.Native.Nat.{ℕ, ◌+◌, ◌<◌, ◌≤◌, suc-le-suc}
-use mathlib.Core.Path.{◌≡◌, sym, ap, ◌∙◌}
-use mathlib.Core.Bool.{true}
-use mathlib.Core.List.{List}
-use lib.ListN.{length, drop, get_or}
+use Rattle.std.proofs.Common.{ℕ, ◌+◌, ◌<◌, ◌≤◌, suc-le-suc, ◌≡◌, sym, ap, ◌∙◌, true, List, length, drop, get_or}
 use Rattle.reader.specs.declared.readers.Kept.{Kept}
 use Rattle.reader.specs.declared.readers.Kept.TheVariants.{NoByte}
 use Rattle.line.specs.declared.cores.Core.{Core}

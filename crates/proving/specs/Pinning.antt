@@ -1,7 +1,7 @@
 -- What it is for a call's contract to pin its result down (01 "Pinning the answers down"): any two results that it allows for the same
 -- arguments are equal. `learnt` is the contract as callers learn it.
-use Rattle.std.specs.Prelude.{ℕ, ◌≡◌, List}
 use Rattle.std.proofs.Common.{sym, ◌∙◌}
+use Rattle.std.specs.Prelude.{ℕ, ◌≡◌, List}
 use contract.Lifetimes.{Lfts}
 use denote.Triple.Clauses.{AtExit}
 use borrow.Fn.Kinds.{ParamKind, ResultKind, Out, Dens, res_t, ended_of}

@@ -1,11 +1,5 @@
 -- A loop that stores 0 behind the first bytes: what is left to do gives the same, and at the end it is done.
-use Prim.Native.Nat.{ℕ, suc, ◌+◌, ◌-◌, ◌<◌, ◌≤◌}
-use mathlib.Core.Path.{◌≡◌, sym, ap, ◌∙◌}
-use mathlib.Core.List.{List, [], ◌∷◌, ◌++◌, append-nil, append_assoc}
-use native.Mathlib.Numerals.{add-one}
-use native.Mathlib.Omega.{arith}
-use lib.ListN.{length, set, take, replicate}
-use lib.Seq.{take-suc-set, take_all}
+use Rattle.std.proofs.Common.{ℕ, suc, ◌+◌, ◌-◌, ◌<◌, ◌≤◌, ◌≡◌, sym, ap, ◌∙◌, List, [], ◌∷◌, ◌++◌, append-nil, append_assoc, add-one, arith, length, set, take, replicate, take-suc-set, take_all}
 use Rattle.wire.specs.Numbers.{room}
 use Rattle.wire.specs.Fields.{trimmed}
 

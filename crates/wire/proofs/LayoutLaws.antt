@@ -1,10 +1,7 @@
 -- Laws of any layout: a reader given the bits of a way stands at its end, and one that stands at an end was given those bits.
-use Prim.Native.Nat.{ℕ, zero, suc, ◌+◌, ◌-◌, ◌*◌, ◌/◌, ◌%◌, ◌^◌, ◌<◌, ◌≤◌}
+use Rattle.std.proofs.Common.{sym, ◌∙◌, pow-suc, lit<, lt-ltb, le-ltb, ltb-true, ltb-false, ℕ, zero, suc, ◌+◌, ◌-◌, ◌*◌, ◌/◌, ◌%◌, ◌^◌, ◌<◌, ◌≤◌, List, [], ◌∷◌, ◌++◌, append-nil, append_assoc, arith}
 use Rattle.std.specs.Prelude.{◌≡◌, refl, Bool, true, false, cond, ltb}
-use Rattle.std.proofs.Common.{sym, ◌∙◌, pow-suc, lit<, lt-ltb, le-ltb, ltb-true, ltb-false}
 use Rattle.std.proofs.Math.Path.{ap, subst}
-use mathlib.Core.List.{List, [], ◌∷◌, ◌++◌, append-nil, append_assoc}
-use native.Mathlib.Omega.{arith}
 use Rattle.std.proofs.Math.Nat.{sub_self, sub-zero}
 use Rattle.std.proofs.Math.Arith.{digits_lt}
 use Rattle.wire.specs.Bits.{bits}

@@ -1,7 +1,5 @@
 -- A loop that counts down the bits of a field: what is left to do gives the same, and at 0 it is done.
-use Prim.Native.Nat.{ℕ, ◌-◌, ◌<◌, ◌≤◌, zero-le}
-use mathlib.Core.Path.{◌≡◌, sym, ap, ◌∙◌}
-use native.Mathlib.Nat.{le_antisymm}
+use Rattle.std.proofs.Common.{ℕ, ◌-◌, ◌<◌, ◌≤◌, zero-le, ◌≡◌, sym, ap, ◌∙◌, le_antisymm}
 use Rattle.wire.specs.Bits.{bit_at, bits}
 use Rattle.wire.proofs.BitsLaws.{bits-step}
 use Rattle.wire.specs.Crc.{crc_step, crc_from}

@@ -1,6 +1,5 @@
 -- Shifted where the bits agree; else the code's xor is the definition's, since both numbers fit the width.
-use Rattle.std.proofs.Common.{◌*◌, ◌%◌, sym, arith, ne_eqb}
-use lib.Dec.{lit<}
+use Rattle.std.proofs.Common.{◌*◌, ◌%◌, sym, arith, ne_eqb, lit<}
 use Rattle.proving.specs.Tests.{tests}
 use Rattle.wire.proofs.BitsLaws.{xors_is}
 use Rattle.wire.specs.Crc.{crc_step}
