@@ -79,8 +79,8 @@ fn take_all(
     Ok(so_far)
 }
 
-// Every line of the input; what a piece is answered by is written before the next is read. A loop has to end, and nothing says that the
-// input does: so the pieces are counted, up to a number that no run reaches.
+// Every line of the input. A loop has to end, and nothing says that the input does: so the pieces are counted, up to a number that no run
+// reaches.
 pub(crate) fn answer_all(input: &mut impl Read, out: &mut impl Write) -> io::Result<()> {
     let mut piece = [0u8; PIECE];
     let mut line = [0u8; ROOM];
@@ -94,10 +94,9 @@ pub(crate) fn answer_all(input: &mut impl Read, out: &mut impl Write) -> io::Res
             break;
         }
         so_far = take_all(out, &mut line, so_far, &piece[..n])?;
-        out.flush()?;
     }
     if 0 < so_far.came {
         end(out, &line, so_far)?;
     }
-    out.flush()
+    Ok(())
 }

@@ -8,9 +8,7 @@ mod lines;
 mod notation;
 
 use std::io;
-use std::io::BufWriter;
 
 fn main(rt: HostRuntime) -> io::Result<()> {
-    let mut out = BufWriter::new(rt.alloc(), rt.stdout())?;
-    lines::answer_all(&mut rt.stdin(), &mut out)
+    lines::answer_all(&mut rt.stdin(), &mut rt.stdout())
 }

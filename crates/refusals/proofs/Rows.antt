@@ -25,3 +25,5 @@ module _ (f : Frame) (old large : Bool) (e : large ≡ too_large f.ident) where
       pub refuses_none : large ≡ false → bar ≡ false → f.code ≤ 15 → off ≡ false → 0 ≡ frame_refusal f old
       unfolding frame_refusal
       refuses_none a b c x = rw (← e, a, ← g, b, le-ltb 15 f.code c, ← d, x)
+
+pub ruleset rows = (refuses_1, refuses_8, refuses_2, refuses_3, refuses_none)

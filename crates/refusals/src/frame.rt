@@ -33,6 +33,7 @@ fn miscounted(remote: bool, code: u8, count: u8) -> bool
 }
 
 // The first number that applies, or 0; `old` marks old controllers.
+#[tactic(auto, using(crate::proofs::Rows::rows))]
 pub fn frame_refusal(f: Frame, old: bool) -> u8
     ensures { result ≡ frame_refusal f old }
 {

@@ -1,8 +1,9 @@
 // The samples of the fault ledger.
 use crate::tally::Tally;
+use crate::words::{Words, none};
 use ledger::{Ledger, State};
-use std::alloc::{AllocError, Global};
 use std::io;
+use std::io::Write;
 
 // Event numbers, in document 01's order from 0.
 const ERROR_FLAG_SENT: u8 = 4;
@@ -17,12 +18,14 @@ fn state(s: State) -> &'static str {
     }
 }
 
-fn standing(alloc: Global, l: Ledger) -> Result<String, AllocError> {
+fn standing(l: Ledger) -> io::Result<Words> {
     let transmit = l.transmit.0;
     let receive = l.receive.0;
     let groups = l.groups;
     let state = state(l.state());
-    format!(in alloc; "{state}, T {transmit}, R {receive}, groups {groups}")
+    let mut words = none();
+    write!(words, "{state}, T {transmit}, R {receive}, groups {groups}")?;
+    Ok(words)
 }
 
 // It goes off after 32 error flags sent: from new, T is 256.
@@ -42,47 +45,47 @@ fn ask(l: Ledger) -> Ledger {
     l.ask().ledger
 }
 
-pub(crate) fn groups(alloc: Global, tally: &mut Tally) -> io::Result<()> {
+pub(crate) fn groups(tally: &mut Tally) -> io::Result<()> {
     let asked = ask(to_off(Ledger::new()));
     tally.sample(
         "a station that is off and was asked to recover sees 127 groups of eleven recessive bits",
-        &standing(alloc, see_127(asked))?,
+        &standing(see_127(asked))?,
         "off, T 256, R 0, groups 127",
     )?;
     tally.sample(
         "a station that is off and was asked to recover sees 128 groups of eleven recessive bits",
-        &standing(alloc, see_128(asked))?,
+        &standing(see_128(asked))?,
         "active, T 0, R 0, groups 0",
     )
 }
 
 // Off means off until somebody looks.
-pub(crate) fn asking(alloc: Global, tally: &mut Tally) -> io::Result<()> {
+pub(crate) fn asking(tally: &mut Tally) -> io::Result<()> {
     let off = to_off(Ledger::new());
     let back = see_128(ask(off));
     tally.sample(
         "a station that is off sees 128 groups, and nobody asked",
-        &standing(alloc, see_128(off))?,
+        &standing(see_128(off))?,
         "off, T 256, R 0, groups 0",
     )?;
     tally.sample(
         "a station is asked to recover, goes off, and sees 128 groups",
-        &standing(alloc, see_128(to_off(ask(Ledger::new()))))?,
+        &standing(see_128(to_off(ask(Ledger::new()))))?,
         "off, T 256, R 0, groups 0",
     )?;
     tally.sample(
         "a station that is off sees 127 groups, is asked to recover, and sees one",
-        &standing(alloc, ask(see_127(off)).eleven_recessive().ledger)?,
+        &standing(ask(see_127(off)).eleven_recessive().ledger)?,
         "off, T 256, R 0, groups 1",
     )?;
     tally.sample(
         "a station that is off is asked, sees 127 groups, is asked again, and sees one",
-        &standing(alloc, ask(see_127(ask(off))).eleven_recessive().ledger)?,
+        &standing(ask(see_127(ask(off))).eleven_recessive().ledger)?,
         "active, T 0, R 0, groups 0",
     )?;
     tally.sample(
         "a station that recovered goes off again, and sees 128 groups",
-        &standing(alloc, see_128(to_off(back)))?,
+        &standing(see_128(to_off(back)))?,
         "off, T 256, R 0, groups 0",
     )
 }

@@ -1,5 +1,7 @@
 // The frames of the samples, and a frame in words.
-use std::alloc::AllocError;
+use crate::words::Words;
+use std::io;
+use std::io::Write;
 use wire::{BaseId, ExtId, Frame, Ident};
 
 // A base data frame; its bytes are as many of 11 22 .. 88 as are given.
@@ -41,7 +43,7 @@ fn kind(remote: bool) -> &'static str {
 }
 
 // 3 digits for a base identifier, 8 for an extended one.
-fn name(words: &mut String, ident: &Ident, remote: bool) -> Result<(), AllocError> {
+fn name(words: &mut Words, ident: &Ident, remote: bool) -> io::Result<()> {
     let kind = kind(remote);
     match ident {
         Ident::Base(i) => write!(words, "base {kind} {:03x}", i.0),
@@ -50,14 +52,14 @@ fn name(words: &mut String, ident: &Ident, remote: bool) -> Result<(), AllocErro
 }
 
 // The bytes that are given, two digits for each.
-fn bytes(words: &mut String, f: &Frame) -> Result<(), AllocError> {
+fn bytes(words: &mut Words, f: &Frame) -> io::Result<()> {
     for b in f.bytes.iter().take(f.count as usize) {
         write!(words, "{b:02x}")?;
     }
     Ok(())
 }
 
-pub(crate) fn frame(words: &mut String, f: &Frame) -> Result<(), AllocError> {
+pub(crate) fn frame(words: &mut Words, f: &Frame) -> io::Result<()> {
     name(words, &f.ident, f.remote)?;
     write!(words, ", code {}", f.code)?;
     if f.count == 0 {

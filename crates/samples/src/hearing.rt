@@ -1,15 +1,17 @@
 // A listener, and what it answered so far.
 use crate::frames::frame;
 use crate::images::ELEVEN;
+use crate::words::{Words, is_none, none};
 use listener::{Answer, Listener};
 use moves::{Fault, Place};
-use std::alloc::{AllocError, Global};
+use std::io;
+use std::io::Write;
 use wire::Received;
 
 #[derive(Drop)]
 pub(crate) struct Hearing {
     listener: Listener,
-    answers: String,
+    answers: Words,
 }
 
 // The letters `0` and `1` are the samples 0 and 1; any other byte is offered as it is.
@@ -22,11 +24,11 @@ fn sample(letter: u8) -> u8 {
 }
 
 // Between one answer and the next.
-fn then(answers: &mut String) -> Result<(), AllocError> {
-    if answers.is_empty() {
+fn then(answers: &mut Words) -> io::Result<()> {
+    if is_none(answers) {
         Ok(())
     } else {
-        answers.push_str(", then ")
+        answers.write_all(b", then ")
     }
 }
 
@@ -41,7 +43,7 @@ fn fault(x: &Fault) -> &'static str {
 }
 
 // One answer more; `received` is what was handed out, if anything was.
-fn answered(answers: &mut String, answer: &Answer, received: &Received) -> Result<(), AllocError> {
+fn answered(answers: &mut Words, answer: &Answer, received: &Received) -> io::Result<()> {
     match answer {
         Answer::Nothing => Ok(()),
         Answer::Handed => {
@@ -50,7 +52,7 @@ fn answered(answers: &mut String, answer: &Answer, received: &Received) -> Resul
         }
         Answer::Trouble(x) => {
             then(answers)?;
-            answers.push_str(fault(x))
+            answers.write_all(fault(x).as_bytes())
         }
         Answer::Refused(n) => {
             then(answers)?;
@@ -61,20 +63,20 @@ fn answered(answers: &mut String, answer: &Answer, received: &Received) -> Resul
 
 impl Hearing {
     // A new listener.
-    pub(crate) fn new(alloc: Global) -> Hearing {
+    pub(crate) fn new() -> Hearing {
         Hearing {
             listener: Listener::new(),
-            answers: String::new(alloc),
+            answers: none(),
         }
     }
 
     // A new one, made ready by eleven recessive samples.
-    pub(crate) fn ready(alloc: Global) -> Result<Hearing, AllocError> {
-        Hearing::new(alloc).hear(ELEVEN.as_bytes())
+    pub(crate) fn ready() -> io::Result<Hearing> {
+        Hearing::new().hear(ELEVEN.as_bytes())
     }
 
     // One sample more.
-    fn step(self, b: u8) -> Result<Hearing, AllocError> {
+    fn step(self, b: u8) -> io::Result<Hearing> {
         let Hearing {
             listener,
             mut answers,
@@ -88,7 +90,7 @@ impl Hearing {
     }
 
     // More of the line: letters, or samples as the writer leaves them.
-    pub(crate) fn hear(self, letters: &[u8]) -> Result<Hearing, AllocError> {
+    pub(crate) fn hear(self, letters: &[u8]) -> io::Result<Hearing> {
         let mut hearing = self;
         for letter in letters {
             hearing = hearing.step(sample(*letter))?;
@@ -97,15 +99,15 @@ impl Hearing {
     }
 
     // Every answer but "nothing", or where there was none, whether it is waiting.
-    pub(crate) fn said(self) -> Result<String, AllocError> {
+    pub(crate) fn said(self) -> io::Result<Words> {
         let Hearing {
             listener,
             mut answers,
         } = self;
-        if answers.is_empty() {
-            answers.push_str("nothing")?;
+        if is_none(&answers) {
+            answers.write_all(b"nothing")?;
             if let Place::Waiting = listener.core.place {
-                answers.push_str(", still waiting")?;
+                answers.write_all(b", still waiting")?;
             }
         }
         Ok(answers)

@@ -9,31 +9,29 @@ mod images;
 mod listening;
 mod reading_back;
 mod tally;
+mod words;
 mod writing;
 
 use std::io;
-use std::io::BufWriter;
 use tally::Tally;
 
 // In document 01's order ("Samples to try"); then those of the requests.
 fn main(rt: HostRuntime) -> io::Result<()> {
-    let alloc = rt.alloc();
-    let out = BufWriter::new(alloc, rt.stdout())?;
-    let mut t = Tally::new(out);
-    writing::identifiers(alloc, &mut t)?;
-    writing::codes(alloc, &mut t)?;
-    listening::code_15(alloc, &mut t)?;
-    writing::captures(alloc, &mut t)?;
-    listening::ready(alloc, &mut t)?;
-    listening::between(alloc, &mut t)?;
-    counting::groups(alloc, &mut t)?;
-    reading_back::ends_dominant(alloc, &mut t)?;
-    reading_back::ends_recessive(alloc, &mut t)?;
-    listening::newer(alloc, &mut t)?;
-    counting::asking(alloc, &mut t)?;
-    reading_back::code_12(alloc, &mut t)?;
-    writing::codes_to_15(alloc, &mut t)?;
-    writing::identifiers_for_old(alloc, &mut t)?;
-    writing::frames_for_old(alloc, &mut t)?;
+    let mut t = Tally::new(rt.stdout());
+    writing::identifiers(&mut t)?;
+    writing::codes(&mut t)?;
+    listening::code_15(&mut t)?;
+    writing::captures(&mut t)?;
+    listening::ready(&mut t)?;
+    listening::between(&mut t)?;
+    counting::groups(&mut t)?;
+    reading_back::ends_dominant(&mut t)?;
+    reading_back::ends_recessive(&mut t)?;
+    listening::newer(&mut t)?;
+    counting::asking(&mut t)?;
+    reading_back::code_12(&mut t)?;
+    writing::codes_to_15(&mut t)?;
+    writing::identifiers_for_old(&mut t)?;
+    writing::frames_for_old(&mut t)?;
     t.print()
 }

@@ -4,34 +4,34 @@ use crate::frames::base_data;
 use crate::hearing::Hearing;
 use crate::images::{BLANK, IMAGE_009, IMAGE_017, IMAGE_CODE_12, LONGEST};
 use crate::tally::Tally;
-use std::alloc::{AllocError, Global};
+use crate::words::{Words, none};
 use std::io;
+use std::io::Write;
 use wire::Frame;
 
-fn letter(sample: u8) -> char {
+fn letter(sample: u8) -> &'static [u8] {
     match sample {
-        0 => '0',
-        1 => '1',
-        _ => '?',
+        0 => b"0",
+        1 => b"1",
+        _ => b"?",
     }
 }
 
 // The samples, in `0` and `1`.
-fn letters(alloc: Global, samples: &[u8]) -> Result<String, AllocError> {
-    let mut words = String::new(alloc);
+fn letters(samples: &[u8]) -> io::Result<Words> {
+    let mut words = none();
     for sample in samples {
-        words.push(letter(*sample))?;
+        words.write_all(letter(*sample))?;
     }
     Ok(words)
 }
 
 // What a listener that is ready makes of the samples.
-fn heard(alloc: Global, samples: &[u8]) -> Result<String, AllocError> {
-    Hearing::ready(alloc)?.hear(samples)?.said()
+fn heard(samples: &[u8]) -> io::Result<Words> {
+    Hearing::ready()?.hear(samples)?.said()
 }
 
 fn written_and_read(
-    alloc: Global,
     tally: &mut Tally,
     name: &str,
     frame: Frame,
@@ -41,13 +41,12 @@ fn written_and_read(
     let mut capture = [BLANK; LONGEST];
     let bits = writer::write(frame, false, &mut capture, 0).bits;
     let written = capture.get(..bits).unwrap_or(&[]);
-    tally.sample(name, &letters(alloc, written)?, image)?;
-    tally.sample("read that image back", &heard(alloc, written)?, read)
+    tally.sample(name, &letters(written)?, image)?;
+    tally.sample("read that image back", &heard(written)?, read)
 }
 
-pub(crate) fn ends_dominant(alloc: Global, tally: &mut Tally) -> io::Result<()> {
+pub(crate) fn ends_dominant(tally: &mut Tally) -> io::Result<()> {
     written_and_read(
-        alloc,
         tally,
         "write frame 009, whose CRC 7C20 ends in five dominant bits",
         base_data(0x009, 0, 0),
@@ -56,9 +55,8 @@ pub(crate) fn ends_dominant(alloc: Global, tally: &mut Tally) -> io::Result<()> 
     )
 }
 
-pub(crate) fn ends_recessive(alloc: Global, tally: &mut Tally) -> io::Result<()> {
+pub(crate) fn ends_recessive(tally: &mut Tally) -> io::Result<()> {
     written_and_read(
-        alloc,
         tally,
         "write frame 017, whose CRC 521F ends in five recessive bits",
         base_data(0x017, 0, 0),
@@ -68,9 +66,8 @@ pub(crate) fn ends_recessive(alloc: Global, tally: &mut Tally) -> io::Result<()>
 }
 
 // W-207: code 12 means 8 bytes, and stays 12.
-pub(crate) fn code_12(alloc: Global, tally: &mut Tally) -> io::Result<()> {
+pub(crate) fn code_12(tally: &mut Tally) -> io::Result<()> {
     written_and_read(
-        alloc,
         tally,
         "write a frame with length code 12 and 8 bytes",
         base_data(0x123, 12, 8),

@@ -1,16 +1,17 @@
 // The samples that were run, and how many of them came out as they should.
+use crate::words::{Words, said};
 use std::io;
-use std::io::{BufWriter, Stdout, Write};
+use std::io::{Stdout, Write};
 
 #[derive(Drop)]
 pub(crate) struct Tally {
-    out: BufWriter<Stdout>,
+    out: Stdout,
     run: u64,
     right: u64,
 }
 
 impl Tally {
-    pub(crate) fn new(out: BufWriter<Stdout>) -> Tally {
+    pub(crate) fn new(out: Stdout) -> Tally {
         Tally {
             out,
             run: 0,
@@ -19,9 +20,10 @@ impl Tally {
     }
 
     // One sample: its name, what came out, and what document 01 says should.
-    pub(crate) fn sample(&mut self, name: &str, came: &str, should: &str) -> io::Result<()> {
-        write!(self.out, "{name}: {came}")?;
-        self.judged(came == should)
+    pub(crate) fn sample(&mut self, name: &str, came: &Words, should: &str) -> io::Result<()> {
+        write!(self.out, "{name}: ")?;
+        self.out.write_all(said(came))?;
+        self.judged(said(came) == should.as_bytes())
     }
 
     // The sums may wrap, so that no bound has to be shown; no run comes near it.
@@ -35,12 +37,12 @@ impl Tally {
         }
     }
 
-    pub(crate) fn print(mut self) -> io::Result<()> {
-        writeln!(
-            self.out,
-            "{} samples, {} as they should be",
-            self.run, self.right
-        )?;
-        self.out.flush()
+    pub(crate) fn print(self) -> io::Result<()> {
+        let Tally {
+            mut out,
+            run,
+            right,
+        } = self;
+        writeln!(out, "{run} samples, {right} as they should be")
     }
 }
