@@ -58,6 +58,10 @@ bit_above w v n h k =
     let l : v < 2 ^ n = omega (arith, pow_mono k) in
     ap (λ (i : ℕ). i % 2) (div-eq_of_lt l)
 
+-- so a number of 64 bits has none from bit 64 on
+pub no_bit_from_64 : (v n : ℕ) → v < 2 ^ 64 → 64 ≤ n → 0 ≡ bit_at v n
+no_bit_from_64 v n h k = sym (bit_above 64 v n h k)
+
 pub half-lt : (w : ℕ) {a : ℕ} → a < 2 ^ suc w → a / 2 < 2 ^ w
 half-lt w p = omega (arith, pow-suc 2 w)
 

@@ -3,6 +3,7 @@ ghost use Rattle.std.specs.Prelude.{◌≡◌};
 ghost use Rattle.wire.specs.Bits.{bit_at};
 
 // The bit of `value` that has weight 2 to the power of `at`.
+#[tactic(auto, using(crate::proofs::BitsLaws::no_bit_from_64))]
 pub fn bit_at(value: u64, at: u32) -> u32
     ensures { result ≡ bit_at value at }
 {
