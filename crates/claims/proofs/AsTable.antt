@@ -1,8 +1,7 @@
 -- The machine that the code is proved to be answers as document 01's table does: one sample at a time, by what each place of the table
 -- says of the record.
 use Rattle.std.proofs.Common.{ℕ, ◌+◌, ◌<◌, ◌≡◌, refl, sym, ap, ap₂, subst, ◌∙◌, Bool, true, false, cond, List, [], ◌∷◌, ◌++◌, append-nil, arith, eqb, leb, ltb, length, drop, ltb-true, ltb-false, le-ltb, le-leb}
-use mathlib.Core.Bool.{false≢true}
-use borrow.Author.Tests.{lt-leb}
+use Rattle.std.proofs.lemmas.Bool.{false≢true, lt-leb}
 use Rattle.wire.specs.declared.runs.Run.{Run}
 use Rattle.wire.specs.Numbers.{five, idle, room}
 use Rattle.wire.specs.Stuffing.{none, ran, ran_from}

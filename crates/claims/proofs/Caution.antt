@@ -1,9 +1,8 @@
 -- The caution: a frame that the table hands out came from an image, sampled bit after bit right behind ten recessive samples. Only the
 -- sixth end-of-frame bit hands one out, and what its place says of the samples so far is that image.
 use Rattle.std.proofs.Common.{ℕ, ◌-◌, ◌<◌, ◌≤◌, ◌≡◌, refl, sym, ap, ap₂, subst, ◌∙◌, Bool, true, false, List, [], ◌∷◌, ◌++◌, append_assoc, arith, eqb, ltb, length, take, replicate, length-append, take_at, eqb-true}
-use mathlib.Core.Bool.{false≢true}
-use lib.Seq.{take-append_seam}
-use borrow.Author.Tests.{eqb-false}
+use Rattle.std.proofs.lemmas.Bool.{false≢true, eqb-false}
+use Rattle.std.proofs.Math.Seq.{take-append_seam}
 use Rattle.wire.specs.declared.frames.Received.{Received}
 use Rattle.wire.specs.Numbers.{room}
 use Rattle.wire.proofs.BitsLaws.{AllBits}

@@ -1,7 +1,7 @@
 -- THE CENTRAL LEMMA: an image, heard where a dominant bit is a start of frame, says nothing and then its frame at the last but one
 -- sample. By the definition of an image: stuffed bits of fields, and a closing.
 use Rattle.std.proofs.Common.{ℕ, ◌+◌, ◌≡◌, refl, sym, ap, ap₂, subst, ◌∙◌, Bool, true, false, List, [], ◌∷◌, ◌++◌, append-nil, append_assoc, arith, eqb, length, drop, replicate, length-append, eq-eqb}
-use lib.ListN.{replicate-append-replicate}
+use Rattle.std.proofs.Math.ListN.{replicate-append-replicate}
 use Rattle.wire.specs.declared.runs.Run.{Run}
 use Rattle.wire.specs.declared.frames.Received.{Received}
 use Rattle.wire.specs.Numbers.{five}

@@ -1,7 +1,7 @@
 -- The reader of the code, over its enum of fields and its registers, follows the layout of frames: the one place where the two meet.
 use Rattle.std.proofs.Common.{ℕ, zero, suc, ◌+◌, ◌*◌, ◌%◌, ◌^◌, ◌<◌, ◌≤◌, ◌≡◌, refl, sym, ap, ◌∙◌, Bool, true, false, cond, List, [], ◌∷◌, arith, add-one, mod-eq_of_lt, length, take, drop, set, eqb, lt-ltb, le-ltb, eqb-true}
-use lib.Seq.{sets, sets-eq, take-append_seam}
-use borrow.Author.Tests.{eqb-false}
+use Rattle.std.proofs.Math.Seq.{sets, sets-eq, take-append_seam}
+use Rattle.std.proofs.lemmas.Bool.{eqb-false}
 use Rattle.wire.specs.Numbers.{room, srr_noted, r0_noted, base_width, lower_width, crc_width}
 use Rattle.wire.specs.Stuffing.{opposite}
 use Rattle.wire.specs.Fields.{noted_sum, joined, carried}

@@ -1,6 +1,6 @@
 -- A frame that can be received and the fields that are read of its image tell each other.
 use Rattle.std.proofs.Common.{ℕ, zero, suc, ◌+◌, ◌-◌, ◌^◌, ◌<◌, ◌≤◌, ◌≡◌, refl, sym, ap, ap₂, ◌∙◌, Bool, true, false, List, [], ◌∷◌, ◌++◌, arith, eqb, lit<, length, get_or, take, drop, replicate, length-append, length-take, length-drop, take-append-drop, get_or-drop}
-use lib.ListN.{length-replicate}
+use Rattle.std.proofs.Math.ListN.{length-replicate}
 use Rattle.wire.specs.declared.frames.Received.{Received}
 use Rattle.wire.specs.Numbers.{room, crc_width, crc_generator, crc_start}
 use Rattle.wire.proofs.CrcLaws.{crc-lt}

@@ -1,6 +1,6 @@
 -- What a reader at the end of its frame holds: the fields that the bits are, their CRC in the register, and the frame to hand out.
 use Rattle.std.proofs.Common.{ℕ, ◌^◌, ◌<◌, ◌≡◌, refl, sym, ap, ap₂, subst, ◌∙◌, true, List, [], ◌∷◌, ◌++◌, append_assoc, append-nil, arith, mod-eq_of_lt, length, take, length-append, length-take}
-use lib.Seq.{take-append_seam}
+use Rattle.std.proofs.Math.Seq.{take-append_seam}
 use Rattle.wire.specs.Numbers.{room, code_width, crc_width, crc_generator, crc_start}
 use Rattle.wire.specs.Bits.{bits, xors}
 use Rattle.wire.proofs.BitsLaws.{length_bits}

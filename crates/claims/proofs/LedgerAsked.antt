@@ -1,6 +1,6 @@
 -- What was asked for in a history, and the groups since: by induction over the history, event by event.
 use Rattle.std.proofs.Common.{◌+◌, ◌≤◌, ◌<◌, arith, add_assoc, ◌≡◌, refl, sym, Bool, true, false, cond, true≢false, List, [], ◌∷◌, ◌++◌}
-use mathlib.Core.Bool.{false≢true}
+use Rattle.std.proofs.lemmas.Bool.{false≢true}
 use Rattle.ledger.specs.declared.event.Event.{Event}
 use Rattle.ledger.specs.declared.event.Event.TheVariants.{ErrorSeen, DominantAfterFlag, FlagErrorAsTransmitter, FlagErrorAsReceiver, ErrorFlagSent, AcknowledgeError, StuffBitOverwritten, SentWell, ReceivedWell, ElevenRecessive, Ask}
 use Rattle.ledger.specs.Rules.{is_group, is_ask}

@@ -1,6 +1,6 @@
 -- The ledger's promises are kept: each history is split at its recoveries, and the ledger over either kind of split is known.
 use Rattle.std.proofs.Common.{ℕ, ◌≤◌, ◌<◌, arith, ◌≡◌, refl, ◌↔◌, ⊎_elim, Bool, true, false, cond, List, [], ◌∷◌, ◌++◌, length, replicate, lt-ltb, le-ltb}
-use lib.Seq.{take-length}
+use Rattle.std.proofs.Math.Seq.{take-length}
 use Rattle.counts.specs.Numbers.{off_above}
 use Rattle.counts.specs.Counts.{is_passive}
 use Rattle.ledger.specs.declared.state.State.TheVariants.{Active, Passive, BusOff}

@@ -1,6 +1,6 @@
 -- In every history T has passed 255 since the last recovery, or has not: the history is split anew at each event.
 use Rattle.std.proofs.Common.{ℕ, ◌+◌, ◌≤◌, ◌<◌, arith, ◌≡◌, refl, sym, ◌⊎◌, inl, inr, ⊎_elim, Bool, true, false, cond, List, [], ◌∷◌, ◌++◌, append-nil, append_assoc, length, take, length-append, take_all}
-use lib.Seq.{take-append-le, take-nil}
+use Rattle.std.proofs.Math.Seq.{take-append-le, take-nil}
 use Rattle.counts.specs.Numbers.{off_above}
 use Rattle.ledger.specs.declared.event.Event.{Event}
 use Rattle.ledger.specs.declared.event.Event.TheVariants.{ElevenRecessive}

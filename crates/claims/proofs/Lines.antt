@@ -1,7 +1,7 @@
 -- A line of recessive bits and legal images is answered as it should be, from ready and behind an image: image by image, by the
 -- central lemma.
 use Rattle.std.proofs.Common.{ℕ, zero, suc, ◌≤◌, ◌≡◌, refl, ap, ap₂, ◌∙◌, List, [], ◌∷◌, ◌++◌, arith, replicate}
-use lib.ListN.{length-replicate}
+use Rattle.std.proofs.Math.ListN.{length-replicate}
 use Rattle.wire.specs.declared.frames.Received.{Received}
 use Rattle.wire.specs.Image.{image}
 use Rattle.wire.specs.Legal.{Legal}

@@ -1,6 +1,6 @@
 -- The listener's promises are kept.
 use Rattle.std.proofs.Common.{ℕ, ◌<◌, ◌≤◌, ◌≡◌, refl, sym, ap, ◌∙◌, Bool, true, false, true≢false, ◌↔◌, List, [], ◌∷◌, ◌++◌, arith, ltb, take, le-ltb, ltb-true, ltb-false}
-use mathlib.Core.Bool.{false≢true}
+use Rattle.std.proofs.lemmas.Bool.{false≢true}
 use Rattle.wire.specs.Bits.{xors}
 use Rattle.wire.specs.Crc.{crc_step}
 use Rattle.moves.specs.declared.places.Place.TheVariants.{Ready, Intermission}

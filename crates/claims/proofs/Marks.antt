@@ -1,8 +1,8 @@
 -- What each place of the table says of the samples so far: where ten recessive samples ended, and what was sampled since. It is kept by
 -- every sample.
 use Rattle.std.proofs.Common.{ℕ, ◌+◌, ◌-◌, ◌<◌, ◌≤◌, ◌≡◌, refl, sym, ap, ap₂, subst, ◌∙◌, Bool, true, false, cond, List, [], ◌∷◌, ◌++◌, append-nil, append_assoc, arith, eqb, leb, ltb, lit<, drop, eqb-true, ltb-false, leb-true}
-use lib.ListN.{replicate-append-replicate}
-use borrow.Author.Tests.{eqb-false}
+use Rattle.std.proofs.Math.ListN.{replicate-append-replicate}
+use Rattle.std.proofs.lemmas.Bool.{eqb-false}
 use Rattle.wire.specs.Numbers.{five, idle}
 use Rattle.wire.proofs.BitsLaws.{AllBits, all_bits-append}
 use Rattle.wire.specs.Stuffing.{none, ran_from, stuff_from}

@@ -1,7 +1,7 @@
 -- What the "old controllers" mark does: who gets 8, by the rows of 1 and 8; which identifiers those are, by cutting the eleven bits in two;
 -- and that else it changes nothing, since no other row looks at it.
 use Rattle.std.proofs.Common.{ℕ, ◌+◌, ◌*◌, ◌/◌, ◌%◌, ◌^◌, ◌≤◌, ◌<◌, ◌≡◌, refl, sym, ap, ◌∙◌, ◌↔◌, Bool, true, false, List, [], ◌∷◌, arith, take, take_at, lt-ltb, le-ltb, ltb-true, ltb-false}
-use mathlib.Core.Bool.{false≢true}
+use Rattle.std.proofs.lemmas.Bool.{false≢true}
 use Rattle.wire.specs.declared.idents.Ident.{Ident}
 use Rattle.wire.specs.declared.idents.Ident.TheVariants.{Base, Extended}
 use Rattle.wire.specs.declared.frames.Frame.{Frame}

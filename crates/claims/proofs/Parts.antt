@@ -1,6 +1,6 @@
 -- Where a field stands: before the CRC, in it, or behind it.
 use Rattle.std.proofs.Common.{◌≡◌, refl, sym, ◌∙◌, true, false}
-use mathlib.Core.Bool.{false≢true}
+use Rattle.std.proofs.lemmas.Bool.{false≢true}
 use Rattle.reader.specs.declared.fields.Field.{Field}
 use Rattle.reader.specs.declared.fields.Field.TheVariants.{Upper, Srr, Ide, Lower, Rtr, Fdf, R0, Code, Data, Crc, Done}
 use Rattle.reader.specs.Reader.{is_done, is_summed}

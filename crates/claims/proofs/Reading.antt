@@ -1,6 +1,6 @@
 -- What a frame that has taken bits holds: its reader follows the layout's, and its register is their CRC. By one step each, from a new frame.
 use Rattle.std.proofs.Common.{ℕ, ◌<◌, ◌≤◌, ◌≡◌, refl, sym, ap, subst, ◌∙◌, true, false, List, [], ◌∷◌, ◌++◌, arith, length, length-set}
-use mathlib.Core.Bool.{false≢true}
+use Rattle.std.proofs.lemmas.Bool.{false≢true}
 use Rattle.wire.specs.Numbers.{room}
 use Rattle.wire.specs.Layout.{Layout, done, part, newer, Walker, wide, enter, took, Got, frames}
 use Rattle.wire.proofs.LayoutLaws.{Open, open_part, Sized, Stood, stood_new, stood_open, takes-append}

@@ -2,7 +2,7 @@
 -- them is found where it is. By induction over how many say nothing.
 use Rattle.std.proofs.Common.{ℕ, zero, suc, ◌+◌, ◌-◌, ◌≡◌, refl, sym, ap, ◌∙◌, true, List, [], ◌∷◌, ◌++◌, arith, length, take, replicate, length-append}
 use mathlib.Core.List.{head-eq_of_cons-eq, tail-eq_of_cons-eq}
-use lib.ListN.{length-replicate}
+use Rattle.std.proofs.Math.ListN.{length-replicate}
 use Rattle.wire.specs.declared.frames.Received.{Received}
 use Rattle.moves.specs.declared.places.Fault.TheVariants.{StuffError, FormError, CrcError, Overload, NewerFormat}
 use Rattle.listener.specs.declared.listeners.Listener.{Listener}

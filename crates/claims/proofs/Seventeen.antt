@@ -1,7 +1,6 @@
 -- Seventeen recessive samples leave the table ready, wherever it is: how many are still to go at most falls with each of them.
 use Rattle.std.proofs.Common.{ℕ, zero, suc, ◌+◌, ◌-◌, ◌<◌, ◌≤◌, ◌≡◌, refl, sym, ap, ◌∙◌, Bool, true, false, cond, ◌&&◌, List, [], ◌∷◌, ◌++◌, arith, eqb, leb, ltb, lit<, eqb-true, ltb-true, ltb-false, leb-false}
-use mathlib.Core.Bool.{false≢true}
-use borrow.Author.Tests.{eqb-false}
+use Rattle.std.proofs.lemmas.Bool.{false≢true, eqb-false}
 use Rattle.wire.specs.declared.runs.Run.{Run}
 use Rattle.wire.specs.Numbers.{five, idle}
 use Rattle.wire.specs.Stuffing.{none, ran, ran_from}

@@ -1,8 +1,8 @@
 -- The code's reader, bit by bit, reads as the reader of the layout does.
 use Rattle.std.proofs.Common.{ℕ, suc, ◌+◌, ◌-◌, ◌*◌, ◌^◌, ◌<◌, ◌≤◌, ◌≡◌, refl, sym, ap, subst, ◌∙◌, Bool, true, false, cond, List, arith, mod-eq_of_lt, pow-suc, eqb, ltb, lit<, ltb-false, le-ltb}
-use mathlib.Core.Bool.{false≢true}
-use native.Mathlib.Nat.{pow-le-pow_right}
-use lib.Arith.{digits_lt}
+use Rattle.std.proofs.lemmas.Bool.{false≢true}
+use Rattle.std.proofs.Math.Nat.{pow-le-pow_right}
+use Rattle.std.proofs.Math.Arith.{digits_lt}
 use Rattle.wire.specs.Layout.{Layout, done, part, newer, is_newer, Walker, wide, took, Got, frames}
 use Rattle.wire.proofs.LayoutLaws.{Open, open_part, Stood}
 use Rattle.reader.specs.declared.fields.Field.{Field}

@@ -1,6 +1,6 @@
 -- The stuffed part of the table: it goes on while a field is to be read, and where it ends the bits are those of the fields read.
 use Rattle.std.proofs.Common.{ℕ, ◌≡◌, refl, sym, ap, subst, ◌∙◌, true, false, List, arith, eqb}
-use mathlib.Core.Bool.{false≢true}
+use Rattle.std.proofs.lemmas.Bool.{false≢true}
 use Rattle.wire.specs.Numbers.{five}
 use Rattle.wire.specs.Stuffing.{none, ran_from}
 use Rattle.wire.specs.Fields.{raw}

@@ -1,6 +1,6 @@
 -- The CRC's register beside the reader is the CRC of the bits before the CRC field: each bit is summed until that field, and none of it.
 use Rattle.std.proofs.Common.{ℕ, ◌+◌, ◌-◌, ◌<◌, ◌≤◌, ◌≡◌, refl, sym, ap, ◌∙◌, Bool, true, false, cond, List, [], ◌∷◌, ◌++◌, append_assoc, append-nil, arith, eqb, ltb, length, length-append, ltb-true, ltb-false}
-use mathlib.Core.Bool.{false≢true}
+use Rattle.std.proofs.lemmas.Bool.{false≢true}
 use Rattle.wire.specs.Numbers.{crc_width, crc_generator, crc_start, room}
 use Rattle.wire.specs.Crc.{crc_step, crc_from}
 use Rattle.wire.proofs.CrcLaws.{crc-append}

@@ -1,6 +1,6 @@
 -- What the table says of a list of samples goes part by part; and samples of which it says nothing.
 use Rattle.std.proofs.Common.{ℕ, ◌≡◌, refl, sym, ap, ap₂, ◌∙◌, List, [], ◌∷◌, ◌++◌, append-nil, append_assoc, length, replicate, length-append}
-use lib.ListN.{replicate-append-replicate}
+use Rattle.std.proofs.Math.ListN.{replicate-append-replicate}
 use Rattle.claims.specs.Answers.{Said, nothing}
 use Rattle.claims.specs.Table.{Where, Row, row, where_from, says_from}
 

@@ -1,5 +1,4 @@
 -- Each public contract pins its result down, since each is an equation.
-use Rattle.std.proofs.Common.{}
 use borrow.Fn.Kinds.{Out}
 use Rattle.proving.specs.Pinning.{Pinned, one}
 use Rattle.ledger.proofs.ledger.Ledger as call
