@@ -1,5 +1,5 @@
 -- The ledger's promises are kept: each history is split at its recoveries, and the ledger over either kind of split is known.
-use Rattle.std.proofs.Common.{ℕ, ◌≤◌, ◌<◌, arith, ◌≡◌, refl, ◌↔◌, ⊎_elim, Bool, true, false, cond, List, [], ◌∷◌, ◌++◌, length, replicate, lt-ltb, le-ltb}
+use Rattle.std.proofs.Common.{ℕ, ◌≤◌, ◌<◌, arith, ◌≡◌, refl, ◌↔◌, ⊎_elim, Bool, true, false, cond, List, [], ◌∷◌, ◌++◌, length, replicate, lt-ltb, le-ltb, ◌∙◌, Result, Ok}
 use Rattle.std.proofs.Math.Seq.{take-length}
 use Rattle.counts.specs.Numbers.{off_above}
 use Rattle.counts.specs.Counts.{is_passive}
@@ -10,9 +10,9 @@ use Rattle.ledger.specs.Numbers.{recovery_groups}
 use Rattle.ledger.specs.Rules.{new, change, waiting, next, state_of, ledger}
 use Rattle.ledger.specs.RulesLaws.{next_on, next-off}
 use Rattle.ledger.specs.declared.ledger.Ledger.{Ledger}
-use Rattle.ledger.specs.declared.ledger.Ledgered.{Ledgered}
-use Rattle.ledger.specs.Answer.{in_range, accepted, after}
-use Rattle.ledger.specs.AnswerLaws.{new-in_range}
+use Rattle.ledger.specs.declared.ledger.OutOfRange.{OutOfRange}
+use Rattle.ledger.specs.Answer.{in_range, Ledgered, accepted, told, after}
+use Rattle.ledger.specs.AnswerLaws.{new-in_range, told-injective}
 use Rattle.ledger.specs.History.{run, after_all}
 use Rattle.ledger.specs.HistoryLaws.{run-append, run-in_range}
 use Rattle.claims.specs.LedgerHistory.{T_of, R_of, groups, asked, since_asked, NotPassed, Passed}
@@ -27,6 +27,9 @@ use Rattle.claims.proofs.LedgerSplit.{split, still_passed, recovered}
 answered : (h : List Event) → after_all h new ≡ accepted (run h new)
 unfolding after_all
 answered h = rw new-in_range
+
+pub never_refused : (h : List Event) (l : Ledger) (r : Result Ledger OutOfRange) → l ≡ new → told r ≡ after_all h l → r ≡ Ok (run h new)
+never_refused h l r is e = told-injective (rw is at e ∙ answered h)
 
 chained : (h : List Event) (e : Event) → after e (run h new) ≡ accepted (run (h ++ (e ∷ [])) new)
 unfolding after run

@@ -4,11 +4,11 @@ ghost use Rattle.counts.specs.Numbers.{receive_held, most_transmit};
 ghost use Rattle.counts.specs.Counts.{held, off, is_passive, raised, unacknowledged, received};
 
 // The transmit error count, T.
-#[derive(Clone, Copy)]
+#[derive(Clone, Copy, Debug, PartialEq, Eq)]
 pub struct TransmitCount(pub u16);
 
 // The receive error count, R.
-#[derive(Clone, Copy)]
+#[derive(Clone, Copy, Debug, PartialEq, Eq)]
 pub struct ReceiveCount(pub u16);
 
 // T or R above 127.
@@ -47,11 +47,7 @@ impl TransmitCount {
     pub fn lowered(self) -> TransmitCount
         ensures { result.0 ≡ self.0 - 1 }
     {
-        let t = self.0;
-        if t == 0 {
-            return self;
-        }
-        TransmitCount(t - 1)
+        TransmitCount(self.0.saturating_sub(1))
     }
 
     // Unchanged if the station was passive before, else T + 8.
@@ -65,6 +61,7 @@ impl TransmitCount {
     }
 }
 
+// Not one type with the above by a parameter: each count has its own range and moves by rules of its own.
 impl ReceiveCount {
     // R in its range.
     pub fn fits(self) -> bool
@@ -77,25 +74,16 @@ impl ReceiveCount {
     pub fn raised(self, by: u8) -> ReceiveCount
         ensures { result.0 ≡ held (self.0 + by) }
     {
-        let r = self.0;
-        let more = by as u16;
-        if r <= 255 - more {
-            return ReceiveCount(r + more);
-        }
-        ReceiveCount(255)
+        ReceiveCount(self.0.saturating_add(u16::from(by)).min(255))
     }
 
     // Above 127 becomes 127; else R - 1, or 0 if it was 0.
     pub fn lowered(self) -> ReceiveCount
         ensures { result.0 ≡ received self.0 }
     {
-        let r = self.0;
-        if 127 < r {
+        if 127 < self.0 {
             return ReceiveCount(127);
         }
-        if r == 0 {
-            return self;
-        }
-        ReceiveCount(r - 1)
+        ReceiveCount(self.0.saturating_sub(1))
     }
 }

@@ -1,7 +1,27 @@
--- Each public contract pins its result down, since each is an equation.
+-- Each public contract pins its result down: an equation as it is, the calls by 01's words, in which no two answers are said alike, and the
+-- event of a number by cases.
+use Rattle.std.proofs.Common.{ℕ, ◌≡◌, ap, sym, ◌∙◌}
+use Rattle.std.specs.Prelude.{Result, Ok, Err}
 use borrow.Fn.Kinds.{Out}
 use Rattle.proving.specs.Pinning.{Pinned, one}
+use Rattle.ledger.specs.declared.ledger.Ledger.{Ledger}
+use Rattle.ledger.specs.declared.ledger.OutOfRange.{OutOfRange}
+use Rattle.ledger.specs.Answer.{Ledgered, told}
+use Rattle.ledger.specs.AnswerLaws.{told-injective}
+use Rattle.ledger.specs.declared.event.Event.{Event}
+use Rattle.ledger.specs.declared.event.NoEvent.{NoEvent}
+use Rattle.ledger.specs.History.{StandsFor}
 use Rattle.ledger.proofs.ledger.Ledger as call
+use Rattle.ledger.proofs.event.EventTryFromU8 as event
+
+one_told : {v : Ledgered} {q r : Result Ledger OutOfRange} → told q ≡ v → told r ≡ v → q ≡ r
+one_told p q = told-injective (p ∙ sym q)
+
+one_event : (n : ℕ) (q r : Result Event NoEvent) → StandsFor n q → StandsFor n r → q ≡ r
+one_event n (Ok e) (Ok f) p q = cc
+one_event n (Ok e) (Err y) p q = cc
+one_event n (Err x) (Ok f) p q = cc
+one_event n (Err x) (Err y) p q = ap (λ (m : ℕ). Err (record { 0 = m })) (p.0 ∙ sym q.0)
 
 -- the same for the calls for an event, which all take a ledger and answer alike
 abbrev pub PinnedEvent : Out 0 call.error_seen.Kinds.ps call.error_seen.Kinds.r → Type 0
@@ -23,6 +43,7 @@ pub record AllPinned : Type 0 where
   pub received_well : PinnedEvent call.received_well.Reads.Learnt
   pub eleven_recessive : PinnedEvent call.eleven_recessive.Reads.Learnt
   pub ask : PinnedEvent call.ask.Reads.Learnt
+  pub try_from : Pinned 0 event.try_from.Kinds.ps event.try_from.Kinds.r event.try_from.Reads.Learnt
 
 pub pinned : AllPinned
-pinned = search one
+pinned = search (one, one_told, one_event)

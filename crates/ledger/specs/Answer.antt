@@ -1,8 +1,8 @@
 -- What a call of the ledger answers: 01, "When the handset says no", number 7.
-use Rattle.std.specs.Prelude.{Bool, cond, not, ◌&&◌, ◌||◌, leb, eqb}
+use Rattle.std.specs.Prelude.{ℕ, Bool, cond, not, ◌&&◌, ◌||◌, leb, eqb, Result, Ok, Err}
 use Rattle.counts.specs.Numbers.{receive_held, most_transmit}
 use Rattle.ledger.specs.declared.ledger.Ledger.{Ledger}
-use Rattle.ledger.specs.declared.ledger.Ledgered.{Ledgered}
+use Rattle.ledger.specs.declared.ledger.OutOfRange.{OutOfRange}
 use Rattle.ledger.specs.declared.event.Event.{Event}
 use Rattle.ledger.specs.Numbers.{most_groups}
 use Rattle.ledger.specs.Rules.{is_off, next}
@@ -17,6 +17,11 @@ in_range l =
     && (is_off l || not l.asked)
     && (l.asked || eqb l.groups 0)
 
+-- a call's answer in 01's words: the number of the refusal, or 0, and the ledger handed back
+pub record Ledgered : Type 0 where
+  pub refusal : ℕ
+  pub ledger : Ledger
+
 -- not refused, with the next ledger
 abbrev pub accepted : Ledger → Ledgered
 accepted l = record { refusal = 0; ledger = l }
@@ -24,6 +29,15 @@ accepted l = record { refusal = 0; ledger = l }
 -- refusal 7, with the record that was given
 abbrev pub refused : Ledger → Ledgered
 refused l = record { refusal = 7; ledger = l }
+
+-- what the code's answer says in 01's words
+abbrev pub told : Result Ledger OutOfRange → Ledgered
+told (Ok l) = accepted l
+told (Err x) = refused x.0
+
+-- a ledger that lies in its ranges, or else the refusal
+abbrev pub checked : Ledger → Result Ledger OutOfRange
+checked l = cond (in_range l) (Ok l) (Err (record { 0 = l }))
 
 -- what the call for an event answers
 unfoldable pub after : Event → Ledger → Ledgered

@@ -1,16 +1,17 @@
 -- Laws of the ranges: the test as facts on numbers, and that no event leads out of them.
-use Rattle.std.specs.Prelude.{ℕ, ◌+◌, ◌≤◌, ◌<◌, ◌≡◌, refl, Bool, true, false, not, ◌&&◌, ◌||◌, leb, eqb}
-use Rattle.std.proofs.Common.{arith, ⊎_elim, true≢false, lt-ltb, le-ltb, le-leb, eq-eqb, leb-true, eqb-true}
+use Rattle.std.specs.Prelude.{ℕ, ◌+◌, ◌≤◌, ◌<◌, ◌≡◌, refl, Bool, true, false, not, ◌&&◌, ◌||◌, cond, leb, eqb, Result, Ok, Err}
+use Rattle.std.proofs.Common.{arith, ⊎_elim, true≢false, lt-ltb, le-ltb, le-leb, eq-eqb, leb-true, eqb-true, sym, ap, ◌∙◌}
 use Rattle.std.proofs.lemmas.Bool.{false≢true}
 use Rattle.proving.specs.Cases.{lt_or_le, either}
 use Rattle.counts.specs.Numbers.{off_above, receive_held, most_transmit}
 use Rattle.counts.specs.Counts.{off}
 use Rattle.ledger.specs.declared.ledger.Ledger.{Ledger}
+use Rattle.ledger.specs.declared.ledger.OutOfRange.{OutOfRange}
 use Rattle.ledger.specs.declared.event.Event.{Event}
 use Rattle.ledger.specs.Numbers.{recovery_groups, most_groups}
 use Rattle.ledger.specs.Rules.{ledger, new, is_off, is_group, is_ask, one_more, waiting, counting, next}
 use Rattle.ledger.specs.RulesLaws.{next_on, next-off, change-le}
-use Rattle.ledger.specs.Answer.{in_range}
+use Rattle.ledger.specs.Answer.{in_range, Ledgered, told}
 
 each : (a b c d e : Bool) → (a && b && c && d && e) ≡ true → (a ≡ true) × (b ≡ true) × (c ≡ true) × (d ≡ true) × (e ≡ true)
 each true true true true e h = (refl, refl, refl, refl, h)
@@ -130,3 +131,15 @@ new-in_range = in_range_lem new new_ranged
 
 pub next-in_range : (e : Event) (l : Ledger) → in_range l ≡ true → in_range (next e l) ≡ true
 next-in_range e l h = in_range_lem (next e l) (next_ranged e l (ranged l h))
+
+-- no two answers of a call are said alike: each is the one that its words stand for
+
+abbrev answer_of : Ledgered → Result Ledger OutOfRange
+answer_of a = cond (eqb a.refusal 0) (Ok a.ledger) (Err (record { 0 = a.ledger }))
+
+answered : (r : Result Ledger OutOfRange) → answer_of (told r) ≡ r
+answered (Ok l) = refl
+answered (Err x) = refl
+
+pub told-injective : {q r : Result Ledger OutOfRange} → told q ≡ told r → q ≡ r
+told-injective {q} {r} h = sym (answered q) ∙ ap answer_of h ∙ answered r

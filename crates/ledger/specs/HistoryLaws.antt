@@ -1,12 +1,12 @@
 -- Laws of histories: one after another, and within the ranges.
-use Rattle.std.specs.Prelude.{ℕ, suc, ◌+◌, ◌≤◌, ◌<◌, ◌≡◌, refl, true, List, [], ◌∷◌, ◌++◌, length, drop, get_or}
-use Rattle.std.proofs.Common.{add-one, arith, drop_of_length-le, drop-cons}
+use Rattle.std.specs.Prelude.{ℕ, suc, ◌+◌, ◌≤◌, ◌<◌, ◌≡◌, refl, true, List, [], ◌∷◌, ◌++◌, length, drop, get_or, fold}
+use Rattle.std.proofs.Common.{add-one, arith, drop_of_length-le, drop-cons, sym, ◌∙◌}
 use Rattle.ledger.specs.declared.ledger.Ledger.{Ledger}
 use Rattle.ledger.specs.declared.event.Event.{Event}
 use Rattle.ledger.specs.Rules.{next}
 use Rattle.ledger.specs.Answer.{in_range}
 use Rattle.ledger.specs.AnswerLaws.{next-in_range}
-use Rattle.ledger.specs.History.{run, in_order, event_of, events}
+use Rattle.ledger.specs.History.{run, in_order, event_of, numbered, events}
 
 pub run-append : (g h : List Event) (l : Ledger) → run (g ++ h) l ≡ run h (run g l)
 unfolding run
@@ -32,3 +32,8 @@ run-at ns i l h = rw (add-one, drop-cons ns i 0 h) (run-append (event_of (get_or
 pub run-end : (ns : List ℕ) (i : ℕ) (l : Ledger) → length ns ≤ i → run (events (drop i ns)) l ≡ l
 unfolding events run
 run-end ns i l h = rw (drop_of_length-le ns {i = i} h)
+
+pub run_fold : (ns : List ℕ) (l : Ledger) → fold numbered l ns ≡ run (events ns) l
+unfolding run events numbered
+run_fold [] l = refl
+run_fold (n ∷ ns) l = run_fold ns (numbered l n) ∙ sym (run-append (event_of n) (events ns) l)

@@ -1,8 +1,7 @@
 // What can happen to a station, in document 01's order, and the asking of W-210.
-ghost use Rattle.std.specs.Prelude.{◌≡◌};
-ghost use Rattle.ledger.specs.Rules.{is_group, is_ask};
+ghost use Rattle.ledger.specs.History.{StandsFor};
 
-#[derive(Clone, Copy)]
+#[derive(Clone, Copy, Debug, PartialEq, Eq)]
 pub enum Event {
     // An error seen as receiver.
     ErrorSeen,
@@ -28,42 +27,31 @@ pub enum Event {
     Ask,
 }
 
-impl Event {
-    // Whether it is a recessive group.
-    pub(crate) fn is_group(self) -> bool
-        ensures { result ≡ is_group self }
-    {
-        match self {
-            Event::ErrorSeen => false,
-            Event::DominantAfterFlag => false,
-            Event::FlagErrorAsTransmitter => false,
-            Event::FlagErrorAsReceiver => false,
-            Event::ErrorFlagSent => false,
-            Event::AcknowledgeError => false,
-            Event::StuffBitOverwritten => false,
-            Event::SentWell => false,
-            Event::ReceivedWell => false,
-            Event::ElevenRecessive => true,
-            Event::Ask => false,
-        }
-    }
+// A number that stands for no event.
+#[derive(Clone, Copy, Debug, PartialEq, Eq)]
+pub struct NoEvent(pub u8);
 
-    // Whether it asks for a recovery.
-    pub(crate) fn is_ask(self) -> bool
-        ensures { result ≡ is_ask self }
-    {
-        match self {
-            Event::ErrorSeen => false,
-            Event::DominantAfterFlag => false,
-            Event::FlagErrorAsTransmitter => false,
-            Event::FlagErrorAsReceiver => false,
-            Event::ErrorFlagSent => false,
-            Event::AcknowledgeError => false,
-            Event::StuffBitOverwritten => false,
-            Event::SentWell => false,
-            Event::ReceivedWell => false,
-            Event::ElevenRecessive => false,
-            Event::Ask => true,
+// Events go by number in document 01's order, from 0 to 9; the asking is number 10.
+impl TryFrom<u8> for Event {
+    type Error = NoEvent;
+
+    ghost try_from_gives = { StandsFor };
+
+    #[tactic(auto, using(crate::specs::HistoryLaws::event_of_above), unfolding(crate::specs::History::event_of))]
+    fn try_from(n: u8) -> Result<Event, NoEvent> {
+        match n {
+            0 => Ok(Event::ErrorSeen),
+            1 => Ok(Event::DominantAfterFlag),
+            2 => Ok(Event::FlagErrorAsTransmitter),
+            3 => Ok(Event::FlagErrorAsReceiver),
+            4 => Ok(Event::ErrorFlagSent),
+            5 => Ok(Event::AcknowledgeError),
+            6 => Ok(Event::StuffBitOverwritten),
+            7 => Ok(Event::SentWell),
+            8 => Ok(Event::ReceivedWell),
+            9 => Ok(Event::ElevenRecessive),
+            10 => Ok(Event::Ask),
+            _ => Err(NoEvent(n)),
         }
     }
 }

@@ -1,13 +1,15 @@
 // A station's ledger: what it holds, what a call hands back, and the state that it stands for.
 ghost use Rattle.std.specs.Prelude.{◌≡◌};
 ghost use Rattle.ledger.specs.Rules.{new, state_of};
-ghost use Rattle.ledger.specs.Answer.{in_range};
+ghost use Rattle.ledger.specs.Words.{line};
+ghost use Rattle.ledger.specs.Answer.{in_range, checked};
 
 use crate::state::State;
 use counts::{ReceiveCount, TransmitCount, is_passive};
+use std::fmt;
 
 // Both counts; when bus-off, also whether a recovery was asked for, and the groups of eleven recessive bits seen since. Ranges: docs/RANGES.md.
-#[derive(Clone, Copy)]
+#[derive(Clone, Copy, Debug, PartialEq, Eq)]
 pub struct Ledger {
     pub transmit: TransmitCount,
     pub receive: ReceiveCount,
@@ -15,12 +17,9 @@ pub struct Ledger {
     pub asked: bool,
 }
 
-// What a call answers: 0 and the next ledger, or refusal 7 and the ledger that it was given.
-#[derive(Clone, Copy)]
-pub struct Ledgered {
-    pub refusal: u8,
-    pub ledger: Ledger,
-}
+// Refusal 7: a number in the record lies outside its range. It hands back the record that was given.
+#[derive(Clone, Copy, Debug, PartialEq, Eq)]
+pub struct OutOfRange(pub Ledger);
 
 impl Ledger {
     // A new ledger: both counts are 0, and nobody has asked.
@@ -39,26 +38,48 @@ impl Ledger {
     pub fn state(self) -> State
         ensures { result ≡ state_of self }
     {
-        let t = self.transmit;
-        let r = self.receive;
-        if t.is_off() {
-            return State::BusOff;
+        if self.transmit.is_off() {
+            State::BusOff
+        } else if is_passive(self.transmit, self.receive) {
+            State::Passive
+        } else {
+            State::Active
         }
-        if is_passive(t, r) {
-            return State::Passive;
+    }
+
+    // The ledger itself, where all that it holds lies in its range.
+    pub(crate) fn checked(self) -> Result<Ledger, OutOfRange>
+        ensures { result ≡ checked self }
+    {
+        if self.in_range() {
+            Ok(self)
+        } else {
+            Err(OutOfRange(self))
         }
-        State::Active
     }
 
     // Whether what the record holds lies in its range.
     #[tactic(auto, unfolding(crate::specs::Answer::in_range))]
-    pub(crate) fn in_range(self) -> bool
+    fn in_range(self) -> bool
         ensures { result ≡ in_range self }
     {
-        let t = self.transmit;
-        let r = self.receive;
-        let g = self.groups;
-        let asked = self.asked;
+        let Ledger {
+            transmit: t,
+            receive: r,
+            groups: g,
+            asked,
+        } = self;
         t.fits() & r.fits() & (g <= 127) & (t.is_off() | !asked) & (asked | (g == 0))
+    }
+}
+
+// As `T R groups STATE`.
+impl fmt::Display for Ledger {
+    ghost output = { line };
+
+    fn fmt<W: fmt::Write>(&self, f: &mut fmt::Formatter<W>) -> fmt::Result {
+        let t = self.transmit.0;
+        let r = self.receive.0;
+        write!(f, "{t} {r} {} {}", self.groups, self.state())
     }
 }

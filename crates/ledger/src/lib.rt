@@ -9,6 +9,6 @@ mod rules;
 mod state;
 
 pub use counts::{ReceiveCount, TransmitCount};
-pub use event::Event;
-pub use ledger::{Ledger, Ledgered};
+pub use event::{Event, NoEvent};
+pub use ledger::{Ledger, OutOfRange};
 pub use state::State;

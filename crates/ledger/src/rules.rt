@@ -7,33 +7,34 @@ use crate::ledger::Ledger;
 
 impl Ledger {
     // One group more: the 128th brings the station back, and uses up the request.
-    fn one_more(mut self) -> Ledger
+    fn one_more(self) -> Ledger
         ensures { result ≡ one_more self }
     {
-        let g = self.groups;
-        if g < 127 {
-            self.groups = g + 1;
-            return self;
+        if self.groups < 127 {
+            Ledger {
+                groups: self.groups + 1,
+                ..self
+            }
+        } else {
+            Ledger::new()
         }
-        Ledger::new()
     }
 
     // A recessive group when bus-off: it counts once a recovery was asked for.
     fn grouped(self) -> Ledger
         ensures { result ≡ grouped self }
     {
-        if self.asked {
-            return self.one_more();
-        }
-        self
+        if self.asked { self.one_more() } else { self }
     }
 
     // A recovery asked for when bus-off, for the first time or again.
-    fn asking(mut self) -> Ledger
+    fn asking(self) -> Ledger
         ensures { result ≡ asking self }
     {
-        self.asked = true;
-        self
+        Ledger {
+            asked: true,
+            ..self
+        }
     }
 
     // Any event when bus-off.
@@ -41,13 +42,11 @@ impl Ledger {
     fn waiting(self, e: Event) -> Ledger
         ensures { result ≡ waiting e self }
     {
-        if e.is_group() {
-            return self.grouped();
+        match e {
+            Event::ElevenRecessive => self.grouped(),
+            Event::Ask => self.asking(),
+            _ => self,
         }
-        if e.is_ask() {
-            return self.asking();
-        }
-        self
     }
 
     // Any event when not bus-off.
@@ -59,42 +58,15 @@ impl Ledger {
         let t = self.transmit;
         let r = self.receive;
         match e {
-            Event::ErrorSeen => {
-                self.receive = r.raised(1);
-                self
-            }
-            Event::DominantAfterFlag => {
-                self.receive = r.raised(8);
-                self
-            }
-            Event::FlagErrorAsTransmitter => {
-                self.transmit = t.raised();
-                self
-            }
-            Event::FlagErrorAsReceiver => {
-                self.receive = r.raised(8);
-                self
-            }
-            Event::ErrorFlagSent => {
-                self.transmit = t.raised();
-                self
-            }
-            Event::AcknowledgeError => {
-                self.transmit = t.unacknowledged(r);
-                self
-            }
-            Event::StuffBitOverwritten => self,
-            Event::SentWell => {
-                self.transmit = t.lowered();
-                self
-            }
-            Event::ReceivedWell => {
-                self.receive = r.lowered();
-                self
-            }
-            Event::ElevenRecessive => self,
-            Event::Ask => self,
+            Event::ErrorSeen => self.receive = r.raised(1),
+            Event::DominantAfterFlag | Event::FlagErrorAsReceiver => self.receive = r.raised(8),
+            Event::FlagErrorAsTransmitter | Event::ErrorFlagSent => self.transmit = t.raised(),
+            Event::AcknowledgeError => self.transmit = t.unacknowledged(r),
+            Event::SentWell => self.transmit = t.lowered(),
+            Event::ReceivedWell => self.receive = r.lowered(),
+            Event::StuffBitOverwritten | Event::ElevenRecessive | Event::Ask => {}
         }
+        self
     }
 
     // The rules.
@@ -102,10 +74,10 @@ impl Ledger {
     pub(crate) fn next(self, e: Event) -> Ledger
         ensures { result ≡ next e self }
     {
-        let t = self.transmit;
-        if t.is_off() {
-            return self.waiting(e);
+        if self.transmit.is_off() {
+            self.waiting(e)
+        } else {
+            self.counting(e)
         }
-        self.counting(e)
     }
 }

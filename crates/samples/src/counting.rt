@@ -1,91 +1,86 @@
 // The samples of the fault ledger.
 use crate::tally::Tally;
 use crate::words::{Words, none};
-use ledger::{Ledger, State};
+use ledger::{Ledger, OutOfRange};
 use std::io;
 use std::io::Write;
 
-// Event numbers, in document 01's order from 0.
-const ERROR_FLAG_SENT: u8 = 4;
+// Histories, by document 01's event numbers: 32 error flags sent, after which a new station is off, since T is 256; and groups of eleven
+// recessive bits.
+const TO_OFF: [u8; 32] = [4; 32];
 
-const ELEVEN_RECESSIVE: u8 = 9;
+const GROUPS_127: [u8; 127] = [9; 127];
 
-fn state(s: State) -> &'static str {
-    match s {
-        State::Active => "active",
-        State::Passive => "passive",
-        State::BusOff => "off",
-    }
-}
+const GROUPS_128: [u8; 128] = [9; 128];
 
 fn standing(l: Ledger) -> io::Result<Words> {
     let transmit = l.transmit.0;
     let receive = l.receive.0;
     let groups = l.groups;
-    let state = state(l.state());
+    let state = l.state();
     let mut words = none();
     write!(words, "{state}, T {transmit}, R {receive}, groups {groups}")?;
     Ok(words)
 }
 
-// It goes off after 32 error flags sent: from new, T is 256.
-fn to_off(l: Ledger) -> Ledger {
-    l.replay(&[ERROR_FLAG_SENT; 32]).ledger
+// The record that a call hands back, refused or not.
+fn handed_back(answer: Result<Ledger, OutOfRange>) -> Ledger {
+    answer.unwrap_or_else(|refused| refused.0)
 }
 
-fn see_127(l: Ledger) -> Ledger {
-    l.replay(&[ELEVEN_RECESSIVE; 127]).ledger
+fn see(l: Ledger, history: &[u8]) -> Ledger {
+    handed_back(l.replay(history))
 }
 
-fn see_128(l: Ledger) -> Ledger {
-    l.replay(&[ELEVEN_RECESSIVE; 128]).ledger
+fn see_one(l: Ledger) -> Ledger {
+    handed_back(l.eleven_recessive())
 }
 
 fn ask(l: Ledger) -> Ledger {
-    l.ask().ledger
+    handed_back(l.ask())
 }
 
 pub(crate) fn groups(tally: &mut Tally) -> io::Result<()> {
-    let asked = ask(to_off(Ledger::new()));
+    let asked = ask(see(Ledger::new(), &TO_OFF));
     tally.sample(
         "a station that is off and was asked to recover sees 127 groups of eleven recessive bits",
-        &standing(see_127(asked))?,
+        &standing(see(asked, &GROUPS_127))?,
         "off, T 256, R 0, groups 127",
     )?;
     tally.sample(
         "a station that is off and was asked to recover sees 128 groups of eleven recessive bits",
-        &standing(see_128(asked))?,
+        &standing(see(asked, &GROUPS_128))?,
         "active, T 0, R 0, groups 0",
     )
 }
 
 // Off means off until somebody looks.
 pub(crate) fn asking(tally: &mut Tally) -> io::Result<()> {
-    let off = to_off(Ledger::new());
-    let back = see_128(ask(off));
+    let off = see(Ledger::new(), &TO_OFF);
+    let back = see(ask(off), &GROUPS_128);
     tally.sample(
         "a station that is off sees 128 groups, and nobody asked",
-        &standing(see_128(off))?,
+        &standing(see(off, &GROUPS_128))?,
         "off, T 256, R 0, groups 0",
     )?;
     tally.sample(
         "a station is asked to recover, goes off, and sees 128 groups",
-        &standing(see_128(to_off(ask(Ledger::new()))))?,
+        &standing(see(see(ask(Ledger::new()), &TO_OFF), &GROUPS_128))?,
         "off, T 256, R 0, groups 0",
     )?;
     tally.sample(
         "a station that is off sees 127 groups, is asked to recover, and sees one",
-        &standing(ask(see_127(off)).eleven_recessive().ledger)?,
+        &standing(see_one(ask(see(off, &GROUPS_127))))?,
         "off, T 256, R 0, groups 1",
     )?;
     tally.sample(
         "a station that is off is asked, sees 127 groups, is asked again, and sees one",
-        &standing(ask(see_127(ask(off))).eleven_recessive().ledger)?,
+        &standing(see_one(ask(see(ask(off), &GROUPS_127))))?,
         "active, T 0, R 0, groups 0",
     )?;
     tally.sample(
         "a station that recovered goes off again, and sees 128 groups",
-        &standing(see_128(to_off(back)))?,
+        &standing(see(see(back, &TO_OFF), &GROUPS_128))?,
         "off, T 256, R 0, groups 0",
     )
 }
