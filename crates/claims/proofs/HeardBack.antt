@@ -11,11 +11,10 @@ use Rattle.listener.specs.declared.listeners.Listener.{Listener}
 use Rattle.listener.specs.declared.answers.Heard.{Heard}
 use Rattle.listener.specs.declared.answers.Found.{Found}
 use Rattle.listener.specs.Listener.{new_listener, refused, fits, found_at, seek, found}
-use Rattle.writer.specs.declared.written.Written.{Written}
 use Rattle.refusals.specs.Refusals.{frame_refusal}
-use Rattle.writer.specs.Writer.{wire_bits, outcome, answer}
+use Rattle.writer.specs.Writer.{wire_bits, Written, outcome, answer}
 use Rattle.writer.specs.WriterLaws.{frame_taken, inside, capture_placed}
-use Rattle.claims.specs.Answers.{nothing, handed}
+use Rattle.claims.specs.Answers.{nothing, handed, FoundSaid, found_said}
 use Rattle.claims.specs.Lines.{recessive, reply}
 use Rattle.claims.specs.Histories.{Listening, after_calls, answers_to}
 use Rattle.claims.specs.ReadBack.{read_as, EightBytes, ready_listener, handed_out, came_back, heard_back, read_back}
@@ -33,10 +32,10 @@ found-fits : (l : Listener) (capture : List ℕ) (from : ℕ) → fits l ≡ tru
 found-fits l capture from t = rw t
 
 -- what a new listener is behind all the samples of a capture that are eleven recessive ones
-pub readied : (l : Listener) (xs : List ℕ) (r : Found) → l ≡ new_listener → xs ≡ recessive idle → r ≡ found l xs 0 → r.next ≡ ready_listener
+pub readied : (l : Listener) (xs : List ℕ) (r : Found) → l ≡ new_listener → xs ≡ recessive idle → r ≡ found l xs 0 → r.heard.next ≡ ready_listener
 unfolding ready_listener
 readied l xs r new one e =
-    ap (λ (f : Found). f.next) (e ∙ ap (λ (k : Listener). found k xs 0) new ∙ found-fits new_listener xs 0 (fits-reached []))
+    ap (λ (f : Found). f.heard.next) (e ∙ ap (λ (k : Listener). found k xs 0) new ∙ found-fits new_listener xs 0 (fits-reached []))
     ∙ seek-silent new_listener 0 xs (subst (λ (ys : List ℕ). answers_to new_listener ys ≡ silence ys) (sym one) idle-silent)
     ∙ ap (after_calls new_listener) one
 
@@ -78,18 +77,20 @@ module _ (f : Frame) (old : Bool) (c c' : List ℕ) (start : ℕ) (w : Written) 
         (sym (image_back f taken b))
         (ready_hears (read_as f) (legal_back f taken b))
 
-    handed_out_lem : EightBytes f → found ready_listener c' start ≡ handed_out f start
+    handed_out_lem : EightBytes f → found_said (found ready_listener c' start) ≡ handed_out f start
     handed_out_lem b =
-        found-fits ready_listener c' start fits_ready
+        ap found_said
+        (found-fits ready_listener c' start fits_ready
         ∙ ap (seek ready_listener start) from_start
-        ∙ seek-reply ready_listener start (wire_bits f) (drop (start + length (wire_bits f)) c) (read_as f) (sent-heard b)
+        ∙ seek-reply ready_listener start (wire_bits f) (drop (start + length (wire_bits f)) c) (read_as f) (sent-heard b))
 
-    pub back_handed : EightBytes f → (l : Listener) (r : Found) → l ≡ ready_listener → r ≡ found l c' start
-        → came_back r c' ≡ read_back f old c start
-    back_handed b l r ready e =
-        ap (λ (x : Found). came_back x c') (e ∙ ap (λ (k : Listener). found k c' start) ready ∙ handed_out_lem b)
+    pub back_handed : EightBytes f → {l : Listener} {x : Found} → l ≡ ready_listener → x ≡ found l c' start
+        → came_back x c' ≡ read_back f old c start
+    back_handed b ready e =
+        ap (λ (y : Found). came_back y c') (e ∙ ap (λ (k : Listener). found k c' start) ready)
+        ∙ ap (λ (s : FoundSaid). record { found = s; capture = c' }) (handed_out_lem b)
         ∙ sym (rw (back_by, eq-eqb w.refusal 0 z))
 
-  pub back_refused : (w.refusal ≡ 0 → ⊥) → (l : Listener) (h : Heard) (r : Found)
-      → l ≡ ready_listener → h ≡ refused w.refusal l → r ≡ found_at start h → came_back r c' ≡ read_back f old c start
-  back_refused n l h r ready e q = rw (back_by, ne_eqb w.refusal 0 n) (cc)
+  pub back_refused : (w.refusal ≡ 0 → ⊥) → {l : Listener} {h : Heard} {x : Found}
+      → l ≡ ready_listener → h ≡ refused w.refusal l → x ≡ found_at start h → came_back x c' ≡ read_back f old c start
+  back_refused given ready e q = rw (q, e, ready, back_by, ne_eqb w.refusal 0 given)

@@ -15,6 +15,7 @@ pub mod Seventeen
 pub mod Marks
 pub mod Caution
 pub mod Reached
+pub mod Said
 pub mod Calls
 pub mod ListenerKept
 pub mod ReadBack

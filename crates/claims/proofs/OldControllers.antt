@@ -10,9 +10,8 @@ use Rattle.wire.specs.Bits.{bits, number}
 use Rattle.wire.proofs.BitsLaws.{length_bits, bits-append, number-bits}
 use Rattle.refusals.specs.Refusals.{row, too_large, barred, refusal}
 use Rattle.refusals.specs.RefusalsLaws.{None, barred_unmarked}
-use Rattle.writer.specs.declared.written.Written.{Written}
 use Rattle.writer.specs.Exactly.{call_exactly}
-use Rattle.writer.specs.Writer.{outcome, answer}
+use Rattle.writer.specs.Writer.{Written, outcome, answer}
 use Rattle.claims.specs.Numbers.{upper_bits}
 use Rattle.claims.specs.Lines.{recessive}
 use Rattle.claims.specs.OldControllers.{Barred, upper_seven}

@@ -1,16 +1,14 @@
 -- Every record reached from a new one stands where the table does, and keeps its ranges; so its calls say what the table says.
 use Rattle.std.proofs.Common.{ℕ, ◌<◌, ◌≡◌, refl, sym, ap, ap₂, subst, ◌∙◌, Bool, true, false, cond, List, [], ◌∷◌, ◌++◌, append-nil, append_assoc, ltb, lt-ltb, ltb-true}
 use Rattle.wire.proofs.BitsLaws.{AllBits, all_bits-append}
-use Rattle.line.specs.declared.cores.Core.{Core}
-use Rattle.line.specs.declared.cores.Event.{Event}
-use Rattle.line.specs.declared.cores.Event.TheVariants.{Keep, Whole, Failed}
 use Rattle.line.specs.Core.{stepped}
 use Rattle.line.specs.Ranges.{core_fits}
 use Rattle.line.proofs.RangesLaws.{fits-new, fits-step}
 use Rattle.listener.specs.declared.listeners.Listener.{Listener}
 use Rattle.listener.specs.declared.answers.Heard.{Heard}
-use Rattle.listener.specs.Listener.{new_listener, answer_to, accepted, fits, heard}
+use Rattle.listener.specs.Listener.{new_listener, accepted, fits, heard}
 use Rattle.listener.specs.Listener as machine
+use Rattle.listener.proofs.Loops.{next_core}
 use Rattle.claims.specs.Answers.{Said, refused, said}
 use Rattle.claims.specs.Table.{Where, waiting, row, where_from, says_from}
 use Rattle.claims.specs.Histories.{after_calls, answers_to, reached, accepted_of, table_answers}
@@ -31,12 +29,6 @@ pub good_new : Good [] new_listener waiting
 good_new = record { bits = tt; fit = fits-new; stands = stands_new; marks = tt; valid = tt }
 
 -- ONE CALL
-
--- an answer hands on the core as it stepped
-next_core : (e : Event) (c : Core) (bytes : List ℕ) → (answer_to e c bytes).next.core ≡ c
-next_core (Keep k) c bytes = refl
-next_core Whole c bytes = refl
-next_core (Failed x) c bytes = refl
 
 module _ (h : List ℕ) (l : Listener) (p : Where) (g : Good h l p) (b : ℕ) where
   pub heard-accepted : b < 2 → heard l b ≡ accepted l b

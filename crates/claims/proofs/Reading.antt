@@ -1,5 +1,5 @@
 -- What a frame that has taken bits holds: its reader follows the layout's, and its register is their CRC. By one step each, from a new frame.
-use Rattle.std.proofs.Common.{ℕ, ◌<◌, ◌≤◌, ◌≡◌, refl, sym, ap, subst, ◌∙◌, true, false, List, [], ◌∷◌, ◌++◌, arith, length, length-set}
+use Rattle.std.proofs.Common.{ℕ, ◌<◌, ◌≤◌, ◌≡◌, refl, sym, ap, subst, ◌∙◌, true, false, Option, Some, None, List, [], ◌∷◌, ◌++◌, arith, length, length-set}
 use Rattle.std.proofs.lemmas.Bool.{false≢true}
 use Rattle.wire.specs.Numbers.{room}
 use Rattle.wire.specs.Layout.{Layout, done, part, newer, Walker, wide, enter, took, Got, frames}
@@ -7,7 +7,6 @@ use Rattle.wire.proofs.LayoutLaws.{Open, open_part, Sized, Stood, stood_new, sto
 use Rattle.wire.proofs.FramesLaws.{sized_frames}
 use Rattle.reader.specs.declared.readers.Reader.{Reader}
 use Rattle.reader.specs.declared.readers.Kept.{Kept}
-use Rattle.reader.specs.declared.readers.Kept.TheVariants.{NoByte, Byte}
 use Rattle.reader.specs.Reader.{width_of, is_done, took_of}
 use Rattle.line.specs.declared.inframe.InFrame.{InFrame}
 use Rattle.line.specs.Core.{new_frame, taken}
@@ -35,9 +34,9 @@ taken-new bytes size =
       summed = record { before = []; after = []; all = refl; register = refl; size = refl };
     }
 
-kept_size : (bytes : List ℕ) (k : Kept) → length bytes ≡ room → length (kept_in bytes k) ≡ room
-kept_size bytes NoByte e = e
-kept_size bytes (Byte i v) e = length-set bytes i v ∙ e
+kept_size : (bytes : List ℕ) (k : Option Kept) → length bytes ≡ room → length (kept_in bytes k) ≡ room
+kept_size bytes None e = e
+kept_size bytes (Some k) e = length-set bytes k.at k.byte ∙ e
 
 -- a reader that is not done has a field to read
 open_of : (r : Reader) (bytes : List ℕ) (w : Walker Got) → Sim r bytes w → is_done r.field ≡ false → Open w.rest

@@ -1,67 +1,41 @@
 -- What is found in a capture, from what the calls say: samples that say nothing are passed over, and a frame that is handed out behind
 -- them is found where it is. By induction over how many say nothing.
-use Rattle.std.proofs.Common.{ℕ, zero, suc, ◌+◌, ◌-◌, ◌≡◌, refl, sym, ap, ◌∙◌, true, List, [], ◌∷◌, ◌++◌, arith, length, take, replicate, length-append}
+use Rattle.std.proofs.Common.{ℕ, zero, suc, ◌+◌, ◌-◌, ◌≡◌, refl, sym, ap, ◌∙◌, List, [], ◌∷◌, ◌++◌, arith, length, take, replicate, length-append}
 use mathlib.Core.List.{head-eq_of_cons-eq, tail-eq_of_cons-eq}
 use Rattle.std.proofs.Math.ListN.{length-replicate}
 use Rattle.wire.specs.declared.frames.Received.{Received}
-use Rattle.moves.specs.declared.places.Fault.TheVariants.{StuffError, FormError, CrcError, Overload, NewerFormat}
 use Rattle.listener.specs.declared.listeners.Listener.{Listener}
-use Rattle.listener.specs.declared.answers.Answer.{Answer}
-use Rattle.listener.specs.declared.answers.Answer.TheVariants.{Nothing, Handed, Trouble, Refused}
+use Rattle.listener.specs.declared.answers.Answer.TheVariants.{Nothing, Handed}
 use Rattle.listener.specs.declared.answers.Heard.{Heard}
 use Rattle.listener.specs.declared.answers.Found.{Found}
-use Rattle.listener.specs.Listener.{heard, is_nothing, seek}
+use Rattle.listener.specs.Listener.{heard, seek}
 use Rattle.listener.specs.ListenerLaws.{seek_on}
-use Rattle.claims.specs.Answers.{Said, nothing, handed, answer_said, said}
+use Rattle.claims.specs.Answers.{Said, nothing, handed, said}
 use Rattle.claims.specs.Lines.{all_but_last}
 use Rattle.claims.specs.Histories.{after_calls, answers_to}
+use Rattle.claims.proofs.Said.{said-injective}
 use Rattle.claims.proofs.Trace.{silence}
 
 -- ONE ANSWER
 
-nothing-said : (a : Answer) (r : Received) → answer_said a r ≡ nothing → is_nothing a ≡ true
-nothing-said Nothing r e = refl
-nothing-said Handed r e = cc
-nothing-said (Trouble StuffError) r e = cc
-nothing-said (Trouble FormError) r e = cc
-nothing-said (Trouble CrcError) r e = cc
-nothing-said (Trouble Overload) r e = cc
-nothing-said (Trouble NewerFormat) r e = cc
-nothing-said (Refused n) r e = cc
-
-handed_answer : (a : Answer) (q r : Received) → answer_said a q ≡ handed r → a ≡ Handed
-handed_answer Nothing q r e = cc
-handed_answer Handed q r e = refl
-handed_answer (Trouble StuffError) q r e = cc
-handed_answer (Trouble FormError) q r e = cc
-handed_answer (Trouble CrcError) q r e = cc
-handed_answer (Trouble Overload) q r e = cc
-handed_answer (Trouble NewerFormat) q r e = cc
-handed_answer (Refused n) q r e = cc
-
-handed_frame : (a : Answer) (q r : Received) → a ≡ Handed → answer_said a q ≡ handed r → q ≡ r
-handed_frame a q r t e = cc
-
 -- a frame handed out at a position, and the record behind it
 abbrev pub handed_at : Received → Listener → ℕ → Found
-handed_at r l at = record { answer = Handed; received = r; at = at; next = l }
+handed_at r l at = record { heard = record { answer = Handed r; next = l }; at = at }
 
 module _ (h : Heard) (at : ℕ) (bs : List ℕ) where
   passed_over : said h ≡ nothing → seek_on at bs h ≡ seek h.next (at + 1) bs
-  passed_over e = rw (nothing-said h.answer h.received e)
+  passed_over e = rw (said-injective h.answer Nothing e)
 
   stopped_at : (r : Received) → said h ≡ handed r → seek_on at bs h ≡ handed_at r h.next at
-  stopped_at r e =
-      let t : h.answer ≡ Handed = handed_answer h.answer h.received r e in
-      rw (t, handed_frame h.answer h.received r t e)
+  stopped_at r e = rw (said-injective h.answer (Handed r) e)
 
 -- OVER SAMPLES
 
 -- none is answered: the record behind all of them
-pub seek-silent : (l : Listener) (at : ℕ) (xs : List ℕ) → answers_to l xs ≡ silence xs → (seek l at xs).next ≡ after_calls l xs
+pub seek-silent : (l : Listener) (at : ℕ) (xs : List ℕ) → answers_to l xs ≡ silence xs → (seek l at xs).heard.next ≡ after_calls l xs
 seek-silent l at [] e = refl
 seek-silent l at (x ∷ xs) e =
-    ap (λ (f : Found). f.next) (passed_over (heard l x) at xs (head-eq_of_cons-eq e))
+    ap (λ (f : Found). f.heard.next) (passed_over (heard l x) at xs (head-eq_of_cons-eq e))
     ∙ seek-silent (heard l x).next (at + 1) xs (tail-eq_of_cons-eq e)
 
 -- one is, behind k that are not: whatever comes behind it

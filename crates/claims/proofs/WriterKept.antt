@@ -2,11 +2,10 @@
 use Rattle.std.proofs.Common.{ℕ, ◌≡◌, ap, ◌∙◌, Bool, List}
 use Rattle.wire.specs.declared.frames.Frame.{Frame}
 use Rattle.wire.proofs.ImageLaws.{image_length}
-use Rattle.writer.specs.declared.written.Written.{Written}
 use Rattle.refusals.specs.Refusals.{frame_refusal}
 use Rattle.refusals.specs.RefusalsLaws.{taken_unmarked}
 use Rattle.writer.specs.Exactly.{call_exactly}
-use Rattle.writer.specs.Writer.{wire_bits, outcome, answer}
+use Rattle.writer.specs.Writer.{wire_bits, Written, outcome, answer}
 use Rattle.writer.specs.WriterLaws.{refused-bits, refused_capture, written_bits, capture_placed}
 use Rattle.claims.specs.Histories.{answers_to, reached, Listening}
 use Rattle.claims.specs.ReadBack.{read_as, EightBytes}

@@ -6,10 +6,9 @@ use Rattle.wire.specs.declared.frames.Received.{Received}
 use Rattle.wire.specs.Numbers.{highest_base, highest_old}
 use Rattle.wire.specs.Image.{image, longest}
 use Rattle.wire.specs.Legal.{IdentIn, Legal}
-use Rattle.writer.specs.declared.written.Written.{Written}
 use Rattle.refusals.specs.Refusals.{frame_refusal}
 use Rattle.writer.specs.Exactly.{Exactly}
-use Rattle.writer.specs.Writer.{sent_as, outcome, answer}
+use Rattle.writer.specs.Writer.{sent_as, Written, outcome, answer}
 use Rattle.moves.specs.declared.places.Place.TheVariants.{Waiting, Ready}
 use Rattle.listener.specs.declared.listeners.Listener.{Listener}
 use Rattle.listener.specs.Listener.{new_listener, fits, heard}
@@ -33,8 +32,8 @@ use Rattle.claims.specs.ReadBack.{read_as, EightBytes}
 use Rattle.claims.specs.LedgerHistory.{T_of, R_of, groups, asked, since_asked, NotPassed, Passed}
 use Rattle.claims.specs.Samples.{Samples}
 
--- THE WRITER: `outcome w c' ≡ answer f old c start` is the contract of `write`, where c is the capture at entry and c' at exit, and `old` is the
--- "old controllers" mark
+-- THE WRITER: `outcome w c' ≡ answer f old c start` is the contract of `write`, where w is what it answers, as `as_written` says it by number,
+-- c is the capture at entry and c' at exit, and `old` is the "old controllers" mark
 
 pub record WriterPromises : Type 0 where
   -- demand 1, "Bad input gets the refusal that document 01 lists, by number": each exactly when its condition holds and none before it applies

@@ -13,19 +13,16 @@ fn ready_listener() -> Listener
     ensures { result ≡ ready_listener }
 {
     let idle = [1u8; IDLE];
-    let f = Listener::new().next(&idle, 0);
-    f.next
+    Listener::new().next(&idle, 0).heard.next
 }
 
 // The frame that was written is handed out; or the writer's refusal is the answer, and no byte changes. `old` marks old controllers.
 pub fn read_back(frame: Frame, old: bool, capture: &mut [u8], start: usize) -> Found
     ensures { came_back result capture.new ≡ read_back frame old capture.old start }
 {
-    let w = write(frame, old, capture, start);
     let l = ready_listener();
-    if w.refusal == 0 {
-        l.next(capture, start)
-    } else {
-        Heard::refused(w.refusal, l).found(start)
+    match write(frame, old, capture, start) {
+        Ok(_) => l.next(capture, start),
+        Err(refusal) => Heard::refused(refusal.number(), l).found(start),
     }
 }

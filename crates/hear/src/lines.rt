@@ -1,83 +1,59 @@
 // A line for an answer.
-use listener::{Answer, Found};
-use moves::Fault;
-use std::io;
-use std::io::Write;
+use listener::Answer;
+use std::fmt;
 use wire::{Frame, Ident, Received};
 
-// 3 digits for a base identifier, 8 for an extended one.
-fn ident(out: &mut impl Write, i: &Ident) -> io::Result<()> {
-    match i {
-        Ident::Base(x) => write!(out, "{:03X}", x.0),
-        Ident::Extended(x) => write!(out, "{:08X}", x.0),
+// A frame as can-utils writes it: 3 digits for a base identifier or 8 for an extended one, `#`, and the bytes; or `R` for a remote frame.
+// The length code stands behind them where they do not tell it.
+#[derive(Drop)]
+struct Notation(Frame);
+
+impl fmt::Display for Notation {
+    fn fmt<W: fmt::Write>(&self, f: &mut fmt::Formatter<W>) -> fmt::Result {
+        let frame = self.0;
+        match frame.ident {
+            Ident::Base(id) => write!(f, "{:03X}#", id.0)?,
+            Ident::Extended(id) => write!(f, "{:08X}#", id.0)?,
+        }
+        if !frame.remote {
+            for b in frame.bytes.iter().take(usize::from(frame.count)) {
+                write!(f, "{b:02X}")?;
+            }
+        }
+        match (frame.remote, frame.code) {
+            (true, 0) => write!(f, "R"),
+            (true, code) => write!(f, "R{code:X}"),
+            (false, 0..=8) => Ok(()),
+            (false, code) => write!(f, "_{code:X}"),
+        }
     }
 }
 
-// The length code of a remote frame, unless it is 0.
-fn remote(out: &mut impl Write, code: u8) -> io::Result<()> {
-    if 0 < code {
-        write!(out, "R{code:X}")
-    } else {
-        write!(out, "R")
+// The answer to a sample, and the sample's number first.
+#[derive(Drop)]
+pub(crate) struct Line {
+    pub number: u64,
+    pub answer: Answer,
+}
+
+impl fmt::Display for Line {
+    fn fmt<W: fmt::Write>(&self, f: &mut fmt::Formatter<W>) -> fmt::Result {
+        let number = self.number;
+        match self.answer {
+            Answer::Nothing => write!(f, "{number} nothing"),
+            Answer::Handed(received) => {
+                let Received {
+                    frame,
+                    acknowledged,
+                    noted,
+                } = received;
+                let frame = Notation(frame);
+                // The slot is the sample: 0 is dominant.
+                let slot = u8::from(!acknowledged);
+                write!(f, "{number} frame {frame} slot={slot} noted={noted}")
+            }
+            Answer::Trouble(fault) => write!(f, "{number} {fault}"),
+            Answer::Refused(n) => write!(f, "{number} refused {n}"),
+        }
     }
-}
-
-// The bytes, and the length code where they do not tell it.
-fn bytes(out: &mut impl Write, f: &Frame) -> io::Result<()> {
-    for b in f.bytes.iter().take(f.count as usize) {
-        write!(out, "{b:02X}")?;
-    }
-    if 8 < f.code {
-        write!(out, "_{:X}", f.code)
-    } else {
-        Ok(())
-    }
-}
-
-// As can-utils writes it: ID#BYTES, or ID#R and the code.
-fn frame(out: &mut impl Write, f: &Frame) -> io::Result<()> {
-    ident(out, &f.ident)?;
-    write!(out, "#")?;
-    if f.remote {
-        remote(out, f.code)
-    } else {
-        bytes(out, f)
-    }
-}
-
-// The slot is the sample: 0 is dominant.
-fn slot(acknowledged: bool) -> u8 {
-    if acknowledged { 0 } else { 1 }
-}
-
-fn received(out: &mut impl Write, r: &Received) -> io::Result<()> {
-    write!(out, "frame ")?;
-    frame(out, &r.frame)?;
-    write!(out, " slot={} noted={}", slot(r.acknowledged), r.noted)
-}
-
-fn fault(x: &Fault) -> &'static str {
-    match x {
-        Fault::StuffError => "stuff error",
-        Fault::FormError => "form error",
-        Fault::CrcError => "CRC error",
-        Fault::Overload => "overload",
-        Fault::NewerFormat => "newer format begun",
-    }
-}
-
-fn answer(out: &mut impl Write, f: &Found) -> io::Result<()> {
-    match &f.answer {
-        Answer::Nothing => write!(out, "nothing"),
-        Answer::Handed => received(out, &f.received),
-        Answer::Trouble(x) => write!(out, "{}", fault(x)),
-        Answer::Refused(n) => write!(out, "refused {n}"),
-    }
-}
-
-// The sample's number first.
-pub(crate) fn line(out: &mut impl Write, number: u64, f: &Found) -> io::Result<()> {
-    write!(out, "{number} ")?;
-    answer(out, f)?;
-    writeln!(out)
 }

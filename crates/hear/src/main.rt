@@ -4,8 +4,8 @@
 mod lines;
 mod samples;
 
-use lines::line;
-use listener::{Found, Listener};
+use lines::Line;
+use listener::Listener;
 use samples::offered;
 use std::io;
 use std::io::{Cursor, Read, Write};
@@ -16,43 +16,47 @@ const PIECE: usize = 65536;
 // No line is longer.
 const LONGEST: usize = 128;
 
-// Write the line for an answer, whole.
-fn tell(out: &mut impl Write, number: u64, f: &Found) -> io::Result<()> {
+// Write the line, whole.
+fn tell(out: &mut impl Write, line: Line) -> io::Result<()> {
     let mut text = Cursor::new([0u8; LONGEST]);
-    line(&mut text, number, f)?;
+    writeln!(text, "{line}")?;
     let end = text.position() as usize;
     out.write_all(text.get_ref().get(..end).unwrap_or(&[]))
 }
 
-// Hear the samples of a piece, of which the first has the number `first`.
-fn hear(out: &mut impl Write, from: Listener, piece: &[u8], first: u64) -> io::Result<Listener> {
-    let mut l = from;
+// Hear samples, of which the first has the number `first`. Each turn asks for the next answer, wherever it is, and so no index is counted:
+// sample by sample the record's ranges would be looked at for each one, which takes twice as long.
+fn hear(out: &mut impl Write, from: Listener, samples: &[u8], first: u64) -> io::Result<Listener> {
+    let mut listener = from;
     let mut at = 0;
-    while at < piece.len() {
-        let f = l.next(piece, at);
-        at = f.at;
-        if at < piece.len() {
-            tell(out, first.wrapping_add(at as u64), &f)?;
+    while at < samples.len() {
+        let found = listener.next(samples, at);
+        at = found.at;
+        listener = found.heard.next;
+        if at < samples.len() {
+            let number = first.wrapping_add(at as u64);
+            let answer = found.heard.answer;
+            tell(out, Line { number, answer })?;
             at += 1;
         }
-        l = f.next;
     }
-    Ok(l)
+    Ok(listener)
 }
 
-// Hear the input to its end. Nothing says that the input ends, so the pieces are counted, up to a number that no run reaches.
+// Hear the input to its end. Nothing says that the input ends, so the pieces are counted, up to a number that no run reaches. Each program
+// has such a loop over a state of its own: one for all would need a contract over any reader and any state.
 fn hear_all(input: &mut impl Read, out: &mut impl Write) -> io::Result<()> {
     let mut piece = [0u8; PIECE];
-    let mut l = Listener::new();
+    let mut listener = Listener::new();
     let mut first = 0u64;
     for _ in 0..u64::MAX {
         let read = input.read(&mut piece)?;
         if read == 0 {
             break;
         }
-        let n = offered(&mut piece, read);
-        l = hear(out, l, &piece[..n], first)?;
-        first = first.wrapping_add(n as u64);
+        let samples = offered(&mut piece[..read]);
+        listener = hear(out, listener, samples, first)?;
+        first = first.wrapping_add(samples.len() as u64);
     }
     Ok(())
 }

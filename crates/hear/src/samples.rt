@@ -1,5 +1,5 @@
 // What is offered to the listener of the bytes that were read.
-ghost use Rattle.std.specs.Prelude.{◌≡◌, ◌≤◌, length, take};
+ghost use Rattle.std.specs.Prelude.{◌≡◌};
 ghost use Rattle.hear.specs.Samples.{is_skipped, sample_of, offered_of};
 
 fn is_skipped(b: u8) -> bool
@@ -18,19 +18,17 @@ fn sample(b: u8) -> u8
     }
 }
 
-// Put what the first `read` bytes offer at the front of the piece; how many samples they are.
-pub(crate) fn offered(piece: &mut [u8], read: usize) -> usize
-    requires { read ≤ length piece.old }
-    ensures upper_bound { result ≤ length piece.new }
-    ensures piece_after { take result piece.new ≡ offered_of (take read piece.old) }
+// What the bytes offer, put together at their front: in place, and so `n` is counted beside the loop, since a slice has no `retain`.
+pub(crate) fn offered(piece: &mut [u8]) -> &[u8]
+    ensures { result.now ≡ offered_of piece.old }
 {
     let mut n = 0;
-    for i in 0..read {
+    for i in 0..piece.len() {
         let b = piece[i];
         if !is_skipped(b) {
             piece[n] = sample(b);
             n += 1;
         }
     }
-    n
+    &piece[..n]
 }

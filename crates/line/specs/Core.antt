@@ -1,5 +1,5 @@
 -- The core over records, one sample at a time: decide, then act. Total on every record.
-use Rattle.std.specs.Prelude.{ℕ, cond}
+use Rattle.std.specs.Prelude.{ℕ, cond, None}
 use Rattle.wire.specs.declared.runs.Run.{Run}
 use Rattle.wire.specs.Numbers.{crc_width, crc_generator, crc_start, end_of_frame_bits}
 use Rattle.wire.specs.Crc.{crc_step}
@@ -7,7 +7,6 @@ use Rattle.wire.specs.Stuffing.{ran}
 use Rattle.wire.specs.Unstuffing.{sampled_as}
 use Rattle.reader.specs.declared.fields.Field.{Field}
 use Rattle.reader.specs.declared.readers.Reader.{Reader}
-use Rattle.reader.specs.declared.readers.Kept.TheVariants.{NoByte}
 use Rattle.reader.specs.Reader.{new_reader, is_done, is_fdf, is_summed, took_of}
 use Rattle.moves.specs.declared.places.Place.{Place}
 use Rattle.moves.specs.declared.places.Place.TheVariants.{Waiting, Ready, Stuffed, AckSlot, AckDelimiter, EndOfFrame, Intermission}
@@ -71,7 +70,7 @@ abbrev pub told : Event → Place → ℕ → InFrame → Stepped
 told e p q f = record { event = e; core = at p q f }
 
 abbrev pub nothing : Event
-nothing = Keep NoByte
+nothing = Keep None
 
 -- a bit of the frame, told with what it leaves to be kept
 abbrev pub take_move : InFrame → ℕ → ℕ → Stepped

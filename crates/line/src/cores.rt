@@ -1,6 +1,6 @@
 // The core, one sample at a time: decide, then act.
 ghost use Rattle.std.specs.Prelude.{◌≡◌};
-ghost use Rattle.line.specs.Core.{new_core, move_at, told, nothing, take_move, moved, stepped};
+ghost use Rattle.line.specs.Core.{at, new_core, move_at, told, nothing, take_move, moved, stepped};
 ghost use Rattle.line.specs.Ranges.{core_fits};
 
 use crate::inframe::InFrame;
@@ -22,7 +22,7 @@ pub struct Core {
 // What came of a sample: something to keep or nothing, a whole frame, or a trouble.
 #[derive(Clone, Copy)]
 pub enum Event {
-    Keep(Kept),
+    Keep(Option<Kept>),
     Whole,
     Failed(Fault),
 }
@@ -33,64 +33,15 @@ pub struct Stepped {
     pub core: Core,
 }
 
-// An event, and where it leaves the core.
-fn told(event: Event, place: Place, quiet: u32, frame: InFrame) -> Stepped
-    ensures { result ≡ told event place quiet frame }
-{
-    let next = Core {
-        place: place,
-        quiet: quiet,
-        frame: frame,
-    };
-    Stepped {
-        event: event,
-        core: next,
-    }
-}
-
-// Nothing came of the sample but another place.
-fn quietly(place: Place, quiet: u32, frame: InFrame) -> Stepped
-    ensures { result ≡ told nothing place quiet frame }
-{
-    told(Event::Keep(Kept::NoByte), place, quiet, frame)
-}
-
-// A bit of the frame.
-fn take(frame: InFrame, b: u32, quiet: u32) -> Stepped
-    ensures { result ≡ take_move frame b quiet }
-{
-    let before = frame.reader;
-    let t = before.took(b);
-    let k = t.kept;
-    let r = t.reader;
-    told(Event::Keep(k), Place::Stuffed, quiet, frame.around(r, b))
-}
-
-// Act.
-fn moved(frame: InFrame, m: Move, b: u32, quiet: u32) -> Stepped
-    ensures { result ≡ moved frame m b quiet }
-{
-    match m {
-        Move::Go(p) => quietly(p, quiet, frame),
-        Move::Begin => quietly(Place::Stuffed, quiet, InFrame::new()),
-        Move::Take => take(frame, b, quiet),
-        Move::Skip => quietly(Place::Stuffed, quiet, frame.skipped(b)),
-        Move::Slot => quietly(Place::AckDelimiter, quiet, frame.slotted(b)),
-        Move::HandOut => told(Event::Whole, Place::EndOfFrame(7), quiet, frame),
-        Move::Fail(x) => told(Event::Failed(x), Place::Waiting, quiet, frame),
-    }
-}
-
 impl Core {
     // New, it is waiting.
     pub fn new() -> Core
         ensures { result ≡ new_core }
     {
-        let f = InFrame::new();
         Core {
             place: Place::Waiting,
             quiet: 0,
-            frame: f,
+            frame: InFrame::new(),
         }
     }
 
@@ -98,29 +49,73 @@ impl Core {
     pub fn fits(self) -> bool
         ensures { result ≡ core_fits self }
     {
-        let p = self.place;
-        let f = self.frame;
-        (self.quiet < 12) & p.fits() & f.fits()
+        (self.quiet < 12) & self.place.fits() & self.frame.fits()
     }
 
-    // Decide: which move a sample asks for, where `quiet` counts it already.
-    fn decide(self, b: u32, quiet: u32) -> Move
-        ensures { result ≡ move_at self.place self.frame b quiet }
+    // With this kept of the frame.
+    fn with(self, frame: InFrame) -> Core
+        ensures { result ≡ at self.place self.quiet frame }
     {
-        let p = self.place;
+        Core { frame, ..self }
+    }
+
+    // An event, and the place that it leads to.
+    fn told(self, event: Event, place: Place) -> Stepped
+        ensures { result ≡ told event place self.quiet self.frame }
+    {
+        Stepped {
+            event,
+            core: Core { place, ..self },
+        }
+    }
+
+    // Nothing comes of the sample but another place.
+    fn quietly(self, place: Place) -> Stepped
+        ensures { result ≡ told nothing place self.quiet self.frame }
+    {
+        self.told(Event::Keep(None), place)
+    }
+
+    // A bit of the frame.
+    fn take(self, b: u32) -> Stepped
+        ensures { result ≡ take_move self.frame b self.quiet }
+    {
+        let took = self.frame.reader.took(b);
+        let core = self.with(self.frame.around(took.reader, b));
+        core.told(Event::Keep(took.kept), Place::Stuffed)
+    }
+
+    // Decide: which move the sample asks for. `quiet` counts it already.
+    fn decide(self, b: u32) -> Move
+        ensures { result ≡ move_at self.place self.frame b self.quiet }
+    {
         let f = self.frame;
-        let u = f.run;
         let r = f.reader;
         let x = r.field;
-        let g = r.registers;
-        match p {
-            Place::Waiting => when_waiting(quiet),
+        match self.place {
+            Place::Waiting => when_waiting(self.quiet),
             Place::Ready => when_ready(b),
-            Place::Stuffed => when_stuffed(u.hear(b), x.is_done(), x.is_fdf(), b),
+            Place::Stuffed => when_stuffed(f.run.hear(b), x.is_done(), x.is_fdf(), b),
             Place::AckSlot => Move::Slot,
-            Place::AckDelimiter => when_ack_delimiter(b, f.crc, g.crc),
+            Place::AckDelimiter => when_ack_delimiter(b, f.crc, r.registers.crc),
             Place::EndOfFrame(k) => when_end_of_frame(k, b),
             Place::Intermission(k) => when_intermission(k, b),
+        }
+    }
+
+    // Act. `quiet` counts the sample already.
+    fn moved(self, m: Move, b: u32) -> Stepped
+        ensures { result ≡ moved self.frame m b self.quiet }
+    {
+        let f = self.frame;
+        match m {
+            Move::Go(p) => self.quietly(p),
+            Move::Begin => self.with(InFrame::new()).quietly(Place::Stuffed),
+            Move::Take => self.take(b),
+            Move::Skip => self.with(f.skipped(b)).quietly(Place::Stuffed),
+            Move::Slot => self.with(f.slotted(b)).quietly(Place::AckDelimiter),
+            Move::HandOut => self.told(Event::Whole, Place::EndOfFrame(7)),
+            Move::Fail(x) => self.told(Event::Failed(x), Place::Waiting),
         }
     }
 
@@ -128,9 +123,10 @@ impl Core {
     pub fn step(self, b: u32) -> Stepped
         ensures { result ≡ stepped self b }
     {
-        let q = quiet_after(self.quiet, b);
-        let m = self.decide(b, q);
-        let f = self.frame;
-        moved(f, m, b, q)
+        let counted = Core {
+            quiet: quiet_after(self.quiet, b),
+            ..self
+        };
+        counted.moved(counted.decide(b), b)
     }
 }

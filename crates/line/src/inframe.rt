@@ -38,11 +38,9 @@ impl InFrame {
     pub(crate) fn new() -> InFrame
         ensures { result ≡ new_frame }
     {
-        let u = Run { last: 0, len: 1 };
-        let r = Reader::new();
         InFrame {
-            run: u,
-            reader: r,
+            run: Run { last: 0, len: 1 },
+            reader: Reader::new(),
             crc: 0,
             slot: 0,
         }
@@ -52,25 +50,18 @@ impl InFrame {
     pub(crate) fn fits(self) -> bool
         ensures { result ≡ frame_fits self }
     {
-        let u = self.run;
-        let r = self.reader;
-        run_fits(u) & r.fits() & (self.crc < 0x8000) & (self.slot < 2)
+        run_fits(self.run) & self.reader.fits() & (self.crc < 0x8000) & (self.slot < 2)
     }
 
     // A bit of the frame, which the reader has taken.
     pub(crate) fn around(self, reader: Reader, b: u32) -> InFrame
         ensures { result ≡ around self reader b }
     {
-        let old = self.run;
-        let before = self.reader;
-        let field = before.field;
-        let u = old.ran(b);
-        let sum = sum_after(field, self.crc, b);
         InFrame {
-            run: u,
-            reader: reader,
-            crc: sum,
-            slot: self.slot,
+            run: self.run.ran(b),
+            reader,
+            crc: sum_after(self.reader.field, self.crc, b),
+            ..self
         }
     }
 
@@ -78,14 +69,9 @@ impl InFrame {
     pub(crate) fn skipped(self, b: u32) -> InFrame
         ensures { result ≡ skipped self b }
     {
-        let old = self.run;
-        let u = old.ran(b);
-        let r = self.reader;
         InFrame {
-            run: u,
-            reader: r,
-            crc: self.crc,
-            slot: self.slot,
+            run: self.run.ran(b),
+            ..self
         }
     }
 
@@ -93,13 +79,6 @@ impl InFrame {
     pub(crate) fn slotted(self, b: u32) -> InFrame
         ensures { result ≡ slotted self b }
     {
-        let u = self.run;
-        let r = self.reader;
-        InFrame {
-            run: u,
-            reader: r,
-            crc: self.crc,
-            slot: b,
-        }
+        InFrame { slot: b, ..self }
     }
 }

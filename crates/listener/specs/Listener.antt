@@ -1,10 +1,8 @@
 -- The listener over records (01 "What the listener does at each sample", "When the handset says no"). Total on every record.
-use Rattle.std.specs.Prelude.{ℕ, ◌+◌, Bool, true, false, cond, List, [], ◌∷◌, drop, set, replicate, eqb, ltb}
-use Rattle.wire.specs.declared.idents.Ident.TheVariants.{Base}
+use Rattle.std.specs.Prelude.{ℕ, ◌+◌, Bool, true, false, cond, Option, Some, None, List, [], ◌∷◌, drop, set, replicate, eqb, ltb}
 use Rattle.wire.specs.declared.frames.Received.{Received}
 use Rattle.wire.specs.Numbers.{room}
 use Rattle.reader.specs.declared.readers.Kept.{Kept}
-use Rattle.reader.specs.declared.readers.Kept.TheVariants.{NoByte, Byte}
 use Rattle.reader.specs.Reader.{frame_of, noted_of}
 use Rattle.line.specs.declared.inframe.InFrame.{InFrame}
 use Rattle.line.specs.declared.cores.Core.{Core}
@@ -21,7 +19,7 @@ use Rattle.listener.specs.declared.answers.Found.{Found}
 abbrev pub new_listener : Listener
 new_listener = record { core = new_core; bytes = replicate room 0 }
 
--- the frame that is handed out, and what stands in its place where none is
+-- the frame that is handed out
 abbrev pub received_of : InFrame → List ℕ → Received
 received_of f bytes =
     record {
@@ -30,28 +28,20 @@ received_of f bytes =
       noted = noted_of f.reader.registers;
     }
 
-abbrev pub blank : Received
-blank =
-    record {
-      frame = record { ident = Base (record { 0 = 0 }); remote = false; code = 0; count = 0; bytes = replicate room 0 };
-      acknowledged = false;
-      noted = 0;
-    }
-
 -- ONE SAMPLE
 
 -- the data bytes with what a sample leaves to be kept
-abbrev pub kept_in : List ℕ → Kept → List ℕ
-kept_in bytes NoByte = bytes
-kept_in bytes (Byte i v) = set bytes i v
+abbrev pub kept_in : List ℕ → Option Kept → List ℕ
+kept_in bytes None = bytes
+kept_in bytes (Some k) = set bytes k.at k.byte
 
-abbrev pub answered : Answer → Received → Core → List ℕ → Heard
-answered a r c bytes = record { answer = a; received = r; next = record { core = c; bytes = bytes } }
+abbrev pub answered : Answer → Core → List ℕ → Heard
+answered a c bytes = record { answer = a; next = record { core = c; bytes = bytes } }
 
 abbrev pub answer_to : Event → Core → List ℕ → Heard
-answer_to (Keep k) c bytes = answered Nothing blank c (kept_in bytes k)
-answer_to Whole c bytes = answered Handed (received_of c.frame bytes) c bytes
-answer_to (Failed x) c bytes = answered (Trouble x) blank c bytes
+answer_to (Keep k) c bytes = answered Nothing c (kept_in bytes k)
+answer_to Whole c bytes = answered (Handed (received_of c.frame bytes)) c bytes
+answer_to (Failed x) c bytes = answered (Trouble x) c bytes
 
 -- a sample that is 0 or 1
 abbrev pub accepted : Listener → ℕ → Heard
@@ -59,29 +49,33 @@ accepted l b = answer_to (stepped l.core b).event (stepped l.core b).core l.byte
 
 -- a refused call hands back the record it was given
 abbrev pub refused : ℕ → Listener → Heard
-refused n l = record { answer = Refused n; received = blank; next = l }
+refused n l = record { answer = Refused n; next = l }
+
+-- any sample, whatever the record
+abbrev pub offered : Listener → ℕ → Heard
+offered l b = cond (ltb b 2) (accepted l b) (refused 6 l)
 
 abbrev pub fits : Listener → Bool
 fits l = core_fits l.core
 
 -- 7 comes before 6
 abbrev pub heard : Listener → ℕ → Heard
-heard l b = cond (fits l) (cond (ltb b 2) (accepted l b) (refused 6 l)) (refused 7 l)
+heard l b = cond (fits l) (offered l b) (refused 7 l)
 
 -- OVER A CAPTURE
 
 abbrev pub is_nothing : Answer → Bool
 is_nothing Nothing = true
-is_nothing Handed = false
+is_nothing (Handed r) = false
 is_nothing (Trouble x) = false
 is_nothing (Refused n) = false
 
 abbrev pub found_at : ℕ → Heard → Found
-found_at at h = record { answer = h.answer; received = h.received; at = at; next = h.next }
+found_at at h = record { heard = h; at = at }
 
 -- the first answer that is not "nothing", from the sample at a position on; "nothing" behind the last
 abbrev pub seek : Listener → ℕ → List ℕ → Found
-seek l at [] = found_at at (record { answer = Nothing; received = blank; next = l })
+seek l at [] = found_at at (record { answer = Nothing; next = l })
 seek l at (b ∷ bs) =
     cond (is_nothing (heard l b).answer) (seek (heard l b).next (at + 1) bs) (found_at at (heard l b))
 

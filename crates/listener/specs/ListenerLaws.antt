@@ -6,7 +6,7 @@ use Rattle.listener.specs.declared.listeners.Listener.{Listener}
 use Rattle.listener.specs.declared.answers.Answer.TheVariants.{Nothing}
 use Rattle.listener.specs.declared.answers.Heard.{Heard}
 use Rattle.listener.specs.declared.answers.Found.{Found}
-use Rattle.listener.specs.Listener.{blank, answer_to, refused, fits, heard, is_nothing, found_at, seek, found}
+use Rattle.listener.specs.Listener.{answer_to, refused, fits, heard, is_nothing, found_at, seek, found}
 
 -- ONE SAMPLE, where the record is within its ranges
 
@@ -29,7 +29,7 @@ module _ (capture : List ℕ) (at : ℕ) (l : Listener) where
       ap (seek l at) (drop-cons capture at 0 h)
       ∙ ap (λ (n : ℕ). seek_on at (drop n capture) (heard l (get_or capture at 0))) (sym (add-one at))
 
-  pub seek-past : length capture ≤ at → seek l at (drop at capture) ≡ found_at at (record { answer = Nothing; received = blank; next = l })
+  pub seek-past : length capture ≤ at → seek l at (drop at capture) ≡ found_at at (record { answer = Nothing; next = l })
   seek-past h = ap (seek l at) (drop_of_length-le capture h)
 
 -- the answer is that to a sample from the position on

@@ -5,15 +5,13 @@ ghost use Rattle.listener.specs.Listener.{kept_in};
 use reader::Kept;
 
 // What a sample leaves to be kept is stored in place.
-pub(crate) fn keep(bytes: &mut [u8], kept: Kept)
+pub(crate) fn keep(bytes: &mut [u8], kept: Option<Kept>)
     ensures { bytes.new ≡ kept_in bytes.old kept }
 {
-    match kept {
-        Kept::NoByte => {}
-        Kept::Byte(i, v) => {
-            if i < bytes.len() {
-                bytes[i] = v;
-            }
-        }
+    // A test and a store, since a slice's contents are not known behind its `get_mut`.
+    if let Some(kept) = kept
+        && kept.at < bytes.len()
+    {
+        bytes[kept.at] = kept.byte;
     }
 }

@@ -4,7 +4,6 @@
 pub mod answers;
 mod bytes;
 pub mod listeners;
-mod received;
 
 pub use answers::{Answer, Found, Heard};
 pub use listeners::Listener;

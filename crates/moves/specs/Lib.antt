@@ -1,3 +1,4 @@
 pub mod Moves
 pub mod Ranges
 pub mod MovesLaws
+pub mod Words

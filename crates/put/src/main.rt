@@ -3,12 +3,11 @@
 #![tactic(auto)]
 
 mod answers;
-mod hex;
 mod lines;
 mod notation;
 
 use std::io;
 
 fn main(rt: HostRuntime) -> io::Result<()> {
-    lines::answer_all(&mut rt.stdin(), &mut rt.stdout())
+    lines::answer_all(&mut rt.stdin(), rt.stdout())
 }

@@ -1,5 +1,5 @@
 -- The field machine (01 "The wire image"): the order of the fields, what each leaves in the registers, and one bit more.
-use Rattle.std.specs.Prelude.{ℕ, ◌+◌, ◌-◌, ◌*◌, ◌%◌, ◌^◌, Bool, true, false, cond, List, eqb, ltb}
+use Rattle.std.specs.Prelude.{ℕ, ◌+◌, ◌-◌, ◌*◌, ◌%◌, ◌^◌, Bool, true, false, cond, Option, Some, None, List, eqb, ltb}
 use Rattle.wire.specs.declared.idents.Ident.{Ident}
 use Rattle.wire.specs.declared.idents.Ident.TheVariants.{Base, Extended}
 use Rattle.wire.specs.declared.frames.Frame.{Frame}
@@ -10,7 +10,6 @@ use Rattle.reader.specs.declared.fields.Field.TheVariants.{Upper, Srr, Ide, Lowe
 use Rattle.reader.specs.declared.registers.Registers.{Registers}
 use Rattle.reader.specs.declared.readers.Reader.{Reader}
 use Rattle.reader.specs.declared.readers.Kept.{Kept}
-use Rattle.reader.specs.declared.readers.Kept.TheVariants.{NoByte, Byte}
 use Rattle.reader.specs.declared.readers.Took.{Took}
 
 -- FIELDS
@@ -120,18 +119,18 @@ put_of g (Data i) v = g
 put_of g Crc v = record { upper = g.upper; srr = g.srr; ide = g.ide; lower = g.lower; rtr = g.rtr; r0 = g.r0; code = g.code; crc = v % 2 ^ crc_width }
 put_of g Done v = g
 
-abbrev pub kept_of : Field → ℕ → Kept
-kept_of Upper v = NoByte
-kept_of Srr v = NoByte
-kept_of Ide v = NoByte
-kept_of Lower v = NoByte
-kept_of Rtr v = NoByte
-kept_of Fdf v = NoByte
-kept_of R0 v = NoByte
-kept_of Code v = NoByte
-kept_of (Data i) v = Byte i (v % 2 ^ byte_width)
-kept_of Crc v = NoByte
-kept_of Done v = NoByte
+abbrev pub kept_of : Field → ℕ → Option Kept
+kept_of Upper v = None
+kept_of Srr v = None
+kept_of Ide v = None
+kept_of Lower v = None
+kept_of Rtr v = None
+kept_of Fdf v = None
+kept_of R0 v = None
+kept_of Code v = None
+kept_of (Data i) v = Some (record { at = i; byte = v % 2 ^ byte_width })
+kept_of Crc v = None
+kept_of Done v = None
 
 -- THE ORDER OF THE FIELDS
 
@@ -178,7 +177,7 @@ shifted v b = v % 2 ^ (lower_width - 1) * 2 + b % 2
 
 -- the field goes on
 abbrev pub within : Reader → ℕ → Took
-within r v = record { reader = record { field = r.field; left = r.left - 1; value = v; registers = r.registers }; kept = NoByte }
+within r v = record { reader = record { field = r.field; left = r.left - 1; value = v; registers = r.registers }; kept = None }
 
 -- the field is whole, and the next begins
 abbrev pub turned : Reader → ℕ → Took

@@ -5,14 +5,9 @@ ghost use Rattle.wire.specs.Fields.{trimmed};
 use wire::frames::ROOM;
 
 // The first n bytes, and 0 behind them.
-pub(crate) fn trimmed(n: usize, bytes: [u8; ROOM]) -> [u8; ROOM]
+pub(crate) fn trimmed(n: usize, mut bytes: [u8; ROOM]) -> [u8; ROOM]
     ensures { result ≡ trimmed n bytes }
 {
-    let mut out = bytes;
-    let mut i = n;
-    while i < ROOM {
-        out[i] = 0;
-        i += 1;
-    }
-    out
+    bytes[n.min(ROOM)..].fill(0);
+    bytes
 }

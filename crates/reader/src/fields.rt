@@ -47,75 +47,33 @@ impl Field {
     pub fn is_done(self) -> bool
         ensures { result ≡ is_done self }
     {
-        match self {
-            Field::Upper => false,
-            Field::Srr => false,
-            Field::Ide => false,
-            Field::Lower => false,
-            Field::Rtr => false,
-            Field::Fdf => false,
-            Field::R0 => false,
-            Field::Code => false,
-            Field::Data(_) => false,
-            Field::Crc => false,
-            Field::Done => true,
-        }
+        matches!(self, Field::Done)
     }
 
     // Would a recessive bit begin a newer format?
     pub fn is_fdf(self) -> bool
         ensures { result ≡ is_fdf self }
     {
-        match self {
-            Field::Upper => false,
-            Field::Srr => false,
-            Field::Ide => false,
-            Field::Lower => false,
-            Field::Rtr => false,
-            Field::Fdf => true,
-            Field::R0 => false,
-            Field::Code => false,
-            Field::Data(_) => false,
-            Field::Crc => false,
-            Field::Done => false,
-        }
+        matches!(self, Field::Fdf)
     }
 
-    // Is the CRC worked out over its bits?
+    // Is the CRC worked out over its bits? Its own are no part of it.
     pub fn is_summed(self) -> bool
         ensures { result ≡ is_summed self }
     {
-        match self {
-            Field::Upper => true,
-            Field::Srr => true,
-            Field::Ide => true,
-            Field::Lower => true,
-            Field::Rtr => true,
-            Field::Fdf => true,
-            Field::R0 => true,
-            Field::Code => true,
-            Field::Data(_) => true,
-            Field::Crc => false, // its own bits
-            Field::Done => false,
-        }
+        !matches!(self, Field::Crc | Field::Done)
     }
 
     // What it leaves to be kept outside, once it is whole.
-    pub fn kept(self, v: u32) -> Kept
+    pub fn kept(self, v: u32) -> Option<Kept>
         ensures { result ≡ kept_of self v }
     {
         match self {
-            Field::Upper => Kept::NoByte,
-            Field::Srr => Kept::NoByte,
-            Field::Ide => Kept::NoByte,
-            Field::Lower => Kept::NoByte,
-            Field::Rtr => Kept::NoByte,
-            Field::Fdf => Kept::NoByte,
-            Field::R0 => Kept::NoByte,
-            Field::Code => Kept::NoByte,
-            Field::Data(i) => Kept::Byte(i, (v % 256) as u8),
-            Field::Crc => Kept::NoByte,
-            Field::Done => Kept::NoByte,
+            Field::Data(at) => Some(Kept {
+                at,
+                byte: (v % 256) as u8,
+            }),
+            _ => None,
         }
     }
 
@@ -124,17 +82,8 @@ impl Field {
         ensures { result ≡ field_fits self }
     {
         match self {
-            Field::Upper => true,
-            Field::Srr => true,
-            Field::Ide => true,
-            Field::Lower => true,
-            Field::Rtr => true,
-            Field::Fdf => true,
-            Field::R0 => true,
-            Field::Code => true,
             Field::Data(i) => i < ROOM,
-            Field::Crc => true,
-            Field::Done => true,
+            _ => true,
         }
     }
 }

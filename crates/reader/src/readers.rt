@@ -15,17 +15,17 @@ pub struct Reader {
     pub registers: Registers,
 }
 
-// What a bit leaves to be kept outside: nothing, or the data byte that it made whole, with its place.
+// A data byte that is whole, to be kept outside, and its place among the bytes.
 #[derive(Clone, Copy)]
-pub enum Kept {
-    NoByte,
-    Byte(usize, u8),
+pub struct Kept {
+    pub at: usize,
+    pub byte: u8,
 }
 
 #[derive(Clone, Copy)]
 pub struct Took {
     pub reader: Reader,
-    pub kept: Kept,
+    pub kept: Option<Kept>,
 }
 
 // A field's bits with one more: no field has more than 18.
@@ -40,10 +40,10 @@ fn begun(registers: Registers, field: Field) -> Reader
     ensures { result ≡ begun registers field }
 {
     Reader {
-        field: field,
+        field,
         left: field.width(),
         value: 0,
-        registers: registers,
+        registers,
     }
 }
 
@@ -59,9 +59,7 @@ impl Reader {
     pub fn fits(self) -> bool
         ensures { result ≡ reader_fits self }
     {
-        let f = self.field;
-        let g = self.registers;
-        f.fits() & (self.left < 19) & (self.value < 0x40000) & g.fits()
+        self.field.fits() & (self.left < 19) & (self.value < 0x40000) & self.registers.fits()
     }
 
     // The field goes on.
@@ -69,17 +67,13 @@ impl Reader {
         requires { 1 < self.left }
         ensures { result ≡ within self v }
     {
-        let f = self.field;
-        let g = self.registers;
-        let next = Reader {
-            field: f,
-            left: self.left - 1,
-            value: v,
-            registers: g,
-        };
         Took {
-            reader: next,
-            kept: Kept::NoByte,
+            reader: Reader {
+                left: self.left - 1,
+                value: v,
+                ..self
+            },
+            kept: None,
         }
     }
 
@@ -87,14 +81,10 @@ impl Reader {
     fn turned(self, v: u32) -> Took
         ensures { result ≡ turned self v }
     {
-        let f = self.field;
-        let before = self.registers;
-        let g = before.put(f, v);
-        let next = begun(g, g.next(f));
-        let k = f.kept(v);
+        let registers = self.registers.put(self.field, v);
         Took {
-            reader: next,
-            kept: k,
+            reader: begun(registers, registers.next(self.field)),
+            kept: self.field.kept(v),
         }
     }
 

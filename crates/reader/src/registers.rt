@@ -9,7 +9,7 @@ use wire::frames::{ROOM, carried};
 use wire::{BaseId, ExtId, Frame, Ident};
 
 // What each field held, as it came. The data bytes are not kept here: each is handed on as it is whole.
-#[derive(Clone, Copy)]
+#[derive(Clone, Copy, Default)]
 pub struct Registers {
     pub upper: u32,
     pub srr: u32,
@@ -62,16 +62,7 @@ impl Registers {
     pub fn new() -> Registers
         ensures { result ≡ new_registers }
     {
-        Registers {
-            upper: 0,
-            srr: 0,
-            ide: 0,
-            lower: 0,
-            rtr: 0,
-            r0: 0,
-            code: 0,
-            crc: 0,
-        }
+        Registers::default()
     }
 
     // Is every number in its range?
@@ -130,16 +121,13 @@ impl Registers {
     pub fn frame(self, bytes: [u8; ROOM]) -> Frame
         ensures { result ≡ frame_of self bytes }
     {
-        let i = self.ident();
-        let m = self.remote();
-        let n = self.bytes_to_come();
-        let b = trimmed(n, bytes);
+        let count = self.bytes_to_come();
         Frame {
-            ident: i,
-            remote: m,
+            ident: self.ident(),
+            remote: self.remote(),
             code: (self.code % 16) as u8,
-            count: n as u8,
-            bytes: b,
+            count: count as u8,
+            bytes: trimmed(count, bytes),
         }
     }
 
@@ -148,42 +136,17 @@ impl Registers {
         ensures { result ≡ put_of self field v }
     {
         match field {
-            Field::Upper => {
-                self.upper = v % 2048;
-                self
-            }
-            Field::Srr => {
-                self.srr = v % 2;
-                self
-            }
-            Field::Ide => {
-                self.ide = v % 2;
-                self
-            }
-            Field::Lower => {
-                self.lower = v % 0x40000;
-                self
-            }
-            Field::Rtr => {
-                self.rtr = v % 2;
-                self
-            }
-            Field::Fdf => self,
-            Field::R0 => {
-                self.r0 = v % 2;
-                self
-            }
-            Field::Code => {
-                self.code = v % 16;
-                self
-            }
-            Field::Data(_) => self,
-            Field::Crc => {
-                self.crc = v % 0x8000;
-                self
-            }
-            Field::Done => self,
+            Field::Upper => self.upper = v % 2048,
+            Field::Srr => self.srr = v % 2,
+            Field::Ide => self.ide = v % 2,
+            Field::Lower => self.lower = v % 0x40000,
+            Field::Rtr => self.rtr = v % 2,
+            Field::R0 => self.r0 = v % 2,
+            Field::Code => self.code = v % 16,
+            Field::Crc => self.crc = v % 0x8000,
+            Field::Fdf | Field::Data(_) | Field::Done => {}
         }
+        self
     }
 
     // The field behind a field that is kept.

@@ -1,7 +1,9 @@
 // The refusals that a frame meets by itself (01 "When the handset says no", numbers 1 to 3; W-207, number 8).
 ghost use Rattle.std.specs.Prelude.{◌≡◌};
+ghost use Rattle.refusals.specs.Refusal.{told};
 ghost use Rattle.refusals.specs.Refusals.{too_large, barred, miscounted, frame_refusal};
 
+use crate::refusal::Refusal;
 use wire::frames::carried;
 use wire::{Frame, Ident};
 
@@ -32,21 +34,21 @@ fn miscounted(remote: bool, code: u8, count: u8) -> bool
     count as usize != carried(remote, code as u32)
 }
 
-// The first number that applies, or 0; `old` marks old controllers.
+// The first refusal that applies; `old` marks old controllers.
 #[tactic(auto, using(crate::proofs::Rows::rows))]
-pub fn frame_refusal(f: Frame, old: bool) -> u8
-    ensures { result ≡ frame_refusal f old }
+pub fn frame_refusal(f: Frame, old: bool) -> Result<(), Refusal>
+    ensures { told result ≡ frame_refusal f old }
 {
     let ident = f.ident;
     if too_large(ident) {
-        1
+        Err(Refusal::Identifier)
     } else if barred(old, ident) {
-        8
+        Err(Refusal::OldControllers)
     } else if 15 < f.code {
-        2
+        Err(Refusal::Code)
     } else if miscounted(f.remote, f.code, f.count) {
-        3
+        Err(Refusal::Count)
     } else {
-        0
+        Ok(())
     }
 }

@@ -1,71 +1,49 @@
 // The frames of the samples, and a frame in words.
-use crate::words::Words;
-use std::io;
-use std::io::Write;
-use wire::{BaseId, ExtId, Frame, Ident};
+use std::fmt;
+use wire::{BaseId, Frame, Ident};
 
-// A base data frame; its bytes are as many of 11 22 .. 88 as are given.
-pub(crate) fn base_data(identifier: u16, code: u8, count: u8) -> Frame {
-    let bytes = [0x11, 0x22, 0x33, 0x44, 0x55, 0x66, 0x77, 0x88];
+pub(crate) fn base(identifier: u16) -> Ident {
+    Ident::Base(BaseId(identifier))
+}
+
+// A data frame; its bytes are as many of 11 22 .. 88 as are given.
+pub(crate) fn data(ident: Ident, code: u8, count: u8) -> Frame {
     Frame {
-        ident: Ident::Base(BaseId(identifier)),
+        ident,
         remote: false,
         code,
         count,
-        bytes,
+        bytes: [0x11, 0x22, 0x33, 0x44, 0x55, 0x66, 0x77, 0x88],
     }
 }
 
-// A base remote frame.
-pub(crate) fn base_remote(identifier: u16, code: u8) -> Frame {
+pub(crate) fn remote(ident: Ident, code: u8) -> Frame {
     Frame {
-        ident: Ident::Base(BaseId(identifier)),
         remote: true,
-        code,
-        count: 0,
-        bytes: [0; 8],
+        ..data(ident, code, 0)
     }
 }
 
-// An extended data frame with no bytes.
-pub(crate) fn extended_data(identifier: u32) -> Frame {
-    Frame {
-        ident: Ident::Extended(ExtId(identifier)),
-        remote: false,
-        code: 0,
-        count: 0,
-        bytes: [0; 8],
-    }
-}
+// A frame, in words.
+#[derive(Drop)]
+pub(crate) struct Described(pub Frame);
 
-fn kind(remote: bool) -> &'static str {
-    if remote { "remote frame" } else { "data frame" }
-}
-
-// 3 digits for a base identifier, 8 for an extended one.
-fn name(words: &mut Words, ident: &Ident, remote: bool) -> io::Result<()> {
-    let kind = kind(remote);
-    match ident {
-        Ident::Base(i) => write!(words, "base {kind} {:03x}", i.0),
-        Ident::Extended(i) => write!(words, "extended {kind} {:08x}", i.0),
-    }
-}
-
-// The bytes that are given, two digits for each.
-fn bytes(words: &mut Words, f: &Frame) -> io::Result<()> {
-    for b in f.bytes.iter().take(f.count as usize) {
-        write!(words, "{b:02x}")?;
-    }
-    Ok(())
-}
-
-pub(crate) fn frame(words: &mut Words, f: &Frame) -> io::Result<()> {
-    name(words, &f.ident, f.remote)?;
-    write!(words, ", code {}", f.code)?;
-    if f.count == 0 {
-        write!(words, ", no bytes")
-    } else {
-        write!(words, ", {} bytes ", f.count)?;
-        bytes(words, f)
+impl fmt::Display for Described {
+    fn fmt<W: fmt::Write>(&self, f: &mut fmt::Formatter<W>) -> fmt::Result {
+        let frame = self.0;
+        let kind = if frame.remote { "remote" } else { "data" };
+        match frame.ident {
+            Ident::Base(id) => write!(f, "base {kind} frame {:03x}", id.0)?,
+            Ident::Extended(id) => write!(f, "extended {kind} frame {:08x}", id.0)?,
+        }
+        write!(f, ", code {}", frame.code)?;
+        if frame.count == 0 {
+            return write!(f, ", no bytes");
+        }
+        write!(f, ", {} bytes ", frame.count)?;
+        for b in frame.bytes.iter().take(usize::from(frame.count)) {
+            write!(f, "{b:02x}")?;
+        }
+        Ok(())
     }
 }

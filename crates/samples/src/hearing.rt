@@ -1,20 +1,15 @@
-// A listener, and what it answered so far.
-use crate::frames::frame;
-use crate::images::ELEVEN;
-use crate::words::{Words, is_none, none};
+// What a new listener answers to a line.
+use crate::frames::Described;
 use listener::{Answer, Listener};
-use moves::{Fault, Place};
-use std::io;
-use std::io::Write;
-use wire::Received;
+use moves::Place;
+use std::fmt;
 
+// A line, stretch behind stretch, in letters. What is said of it: every answer but "nothing"; or where there was none, whether the listener
+// is waiting.
 #[derive(Drop)]
-pub(crate) struct Hearing {
-    listener: Listener,
-    answers: Words,
-}
+pub(crate) struct Hearing<'a>(pub &'a [&'a str]);
 
-// The letters `0` and `1` are the samples 0 and 1; any other byte is offered as it is.
+// The letters `0` and `1` are the samples 0 and 1; any other byte is offered as it is. So it is in `hear`, from which no program can take it.
 fn sample(letter: u8) -> u8 {
     match letter {
         b'0' => 0,
@@ -23,93 +18,44 @@ fn sample(letter: u8) -> u8 {
     }
 }
 
-// Between one answer and the next.
-fn then(answers: &mut Words) -> io::Result<()> {
-    if is_none(answers) {
-        Ok(())
-    } else {
-        answers.write_all(b", then ")
-    }
-}
+#[derive(Drop)]
+struct Said(Answer);
 
-fn fault(x: &Fault) -> &'static str {
-    match x {
-        Fault::StuffError => "stuff error",
-        Fault::FormError => "form error",
-        Fault::CrcError => "CRC error",
-        Fault::Overload => "overload",
-        Fault::NewerFormat => "newer format begun",
-    }
-}
-
-// One answer more; `received` is what was handed out, if anything was.
-fn answered(answers: &mut Words, answer: &Answer, received: &Received) -> io::Result<()> {
-    match answer {
-        Answer::Nothing => Ok(()),
-        Answer::Handed => {
-            then(answers)?;
-            frame(answers, &received.frame)
-        }
-        Answer::Trouble(x) => {
-            then(answers)?;
-            answers.write_all(fault(x).as_bytes())
-        }
-        Answer::Refused(n) => {
-            then(answers)?;
-            write!(answers, "refusal {n}")
+impl fmt::Display for Said {
+    fn fmt<W: fmt::Write>(&self, f: &mut fmt::Formatter<W>) -> fmt::Result {
+        match self.0 {
+            Answer::Nothing => write!(f, "nothing"),
+            Answer::Handed(received) => write!(f, "{}", Described(received.frame)),
+            Answer::Trouble(fault) => write!(f, "{fault}"),
+            Answer::Refused(n) => write!(f, "refusal {n}"),
         }
     }
 }
 
-impl Hearing {
-    // A new listener.
-    pub(crate) fn new() -> Hearing {
-        Hearing {
-            listener: Listener::new(),
-            answers: none(),
-        }
-    }
-
-    // A new one, made ready by eleven recessive samples.
-    pub(crate) fn ready() -> io::Result<Hearing> {
-        Hearing::new().hear(ELEVEN.as_bytes())
-    }
-
-    // One sample more.
-    fn step(self, b: u8) -> io::Result<Hearing> {
-        let Hearing {
-            listener,
-            mut answers,
-        } = self;
-        let heard = listener.hear(b);
-        answered(&mut answers, &heard.answer, &heard.received)?;
-        Ok(Hearing {
-            listener: heard.next,
-            answers,
-        })
-    }
-
-    // More of the line: letters, or samples as the writer leaves them.
-    pub(crate) fn hear(self, letters: &[u8]) -> io::Result<Hearing> {
-        let mut hearing = self;
-        for letter in letters {
-            hearing = hearing.step(sample(*letter))?;
-        }
-        Ok(hearing)
-    }
-
-    // Every answer but "nothing", or where there was none, whether it is waiting.
-    pub(crate) fn said(self) -> io::Result<Words> {
-        let Hearing {
-            listener,
-            mut answers,
-        } = self;
-        if is_none(&answers) {
-            answers.write_all(b"nothing")?;
-            if let Place::Waiting = listener.core.place {
-                answers.write_all(b", still waiting")?;
+impl fmt::Display for Hearing<'_> {
+    fn fmt<W: fmt::Write>(&self, f: &mut fmt::Formatter<W>) -> fmt::Result {
+        let mut listener = Listener::new();
+        let mut silent = true;
+        for stretch in self.0 {
+            for letter in stretch.bytes() {
+                let heard = listener.hear(sample(letter));
+                listener = heard.next;
+                match heard.answer {
+                    Answer::Nothing => {}
+                    answer => {
+                        let between = if silent { "" } else { ", then " };
+                        write!(f, "{between}{}", Said(answer))?;
+                        silent = false;
+                    }
+                }
             }
         }
-        Ok(answers)
+        if silent {
+            write!(f, "nothing")?;
+            if let Place::Waiting = listener.core.place {
+                write!(f, ", still waiting")?;
+            }
+        }
+        Ok(())
     }
 }

@@ -1,5 +1,5 @@
-// Program: document 01's samples that carry no star and those of the requests, run and compared. A line for each says what was tried, what came out, and whether
-// that is what the document says; the last line counts them.
+// Program: document 01's samples that carry no star and those of the requests, run and compared. A line for each says what was tried, what
+// came out, and whether that is what the document says; the last line counts them.
 #![tactic(auto)]
 
 mod counting;
@@ -9,7 +9,6 @@ mod images;
 mod listening;
 mod reading_back;
 mod tally;
-mod words;
 mod writing;
 
 use std::io;

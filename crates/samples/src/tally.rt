@@ -1,7 +1,9 @@
 // The samples that were run, and how many of them came out as they should.
-use crate::words::{Words, said};
-use std::io;
-use std::io::{Stdout, Write};
+use std::io::{Cursor, Stdout, Write};
+use std::{fmt, io};
+
+// Room for what comes of any sample, in words.
+const ROOM: usize = 160;
 
 #[derive(Drop)]
 pub(crate) struct Tally {
@@ -20,10 +22,19 @@ impl Tally {
     }
 
     // One sample: its name, what came out, and what document 01 says should.
-    pub(crate) fn sample(&mut self, name: &str, came: &Words, should: &str) -> io::Result<()> {
+    pub(crate) fn sample(
+        &mut self,
+        name: &str,
+        came: impl fmt::Display + Drop,
+        should: &str,
+    ) -> io::Result<()> {
+        let mut words = Cursor::new([0u8; ROOM]);
+        write!(words, "{came}")?;
+        let end = words.position() as usize;
+        let said = words.get_ref().get(..end).unwrap_or(&[]);
         write!(self.out, "{name}: ")?;
-        self.out.write_all(said(came))?;
-        self.judged(said(came) == should.as_bytes())
+        self.out.write_all(said)?;
+        self.judged(said == should.as_bytes())
     }
 
     // The sums may wrap, so that no bound has to be shown; no run comes near it.
@@ -37,12 +48,9 @@ impl Tally {
         }
     }
 
-    pub(crate) fn print(self) -> io::Result<()> {
-        let Tally {
-            mut out,
-            run,
-            right,
-        } = self;
-        writeln!(out, "{run} samples, {right} as they should be")
+    pub(crate) fn print(mut self) -> io::Result<()> {
+        let run = self.run;
+        let right = self.right;
+        writeln!(self.out, "{run} samples, {right} as they should be")
     }
 }

@@ -12,3 +12,5 @@ module _ (w g r x : ℕ) where
   pub crc-end : (n v : ℕ) → n ≤ 0 → crc_from w g r (bits n v) ≡ x → r ≡ x
   unfolding bits
   crc-end n v h q = ap (λ (k : ℕ). crc_from w g r (bits k v)) (le_antisymm zero-le h) ∙ q
+
+pub ruleset crc_loop = (crc-turn, crc-end)

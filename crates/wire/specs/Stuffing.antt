@@ -1,10 +1,8 @@
 -- Stuffing (01 "The wire image"; 001 6.6.13.2), said by what is due before the next bit: after five equal samples, stuff bits
 -- counted, the opposite one. The CRC delimiter is the last bit before which one can be due; so the stuff bit behind the last CRC bit
 -- needs no clause of its own.
-use Rattle.std.specs.Prelude.{ℕ, ◌+◌, ◌-◌, cond, List, [], ◌∷◌, ◌++◌, eqb, ltb}
+use Rattle.std.specs.Prelude.{ℕ, ◌+◌, ◌-◌, cond, List, [], ◌∷◌, ◌++◌, Option, Some, None, eqb, ltb}
 use Rattle.wire.specs.declared.runs.Run.{Run}
-use Rattle.wire.specs.declared.runs.Due.{Due}
-use Rattle.wire.specs.declared.runs.Due.TheVariants.{Nothing, Stuff}
 use Rattle.wire.specs.Numbers.{five}
 
 -- RUNS
@@ -75,6 +73,6 @@ all c (b ∷ bs) = record { how = c; bit = b } ∷ all c bs
 abbrev pub stuff_from : Run → List ℕ → List ℕ
 stuff_from u bs = wire (code_from u (all dynamic bs))
 
--- what is due, as the code says it
-abbrev pub due_as : Run → Due
-due_as u = cond (eqb u.len five) (Stuff (opposite u.last)) Nothing
+-- the stuff bit that is due, if one is, as the code says it
+abbrev pub due_as : Run → Option ℕ
+due_as u = cond (eqb u.len five) (Some (opposite u.last)) None

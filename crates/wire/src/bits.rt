@@ -1,4 +1,4 @@
-// A field's value, bit by bit.
+// A field's value, bit by bit. A bit is the number 0 or 1, as a sample of a capture is: document 01's answer to any other number is 6.
 ghost use Rattle.std.specs.Prelude.{◌≡◌};
 ghost use Rattle.wire.specs.Bits.{bit_at};
 

@@ -7,6 +7,7 @@ ghost use Rattle.wire.specs.Numbers.{crc_width, crc_generator};
 use crate::bits::bit_at;
 
 // The register after one bit more.
+#[tactic(auto, using(crate::proofs::BitsLaws::xors_is), unfolding(crate::specs::Crc::crc_step))]
 pub fn crc_bit(register: u32, b: u32) -> u32
     ensures { result ≡ crc_step crc_width crc_generator register b }
 {
@@ -19,13 +20,12 @@ pub fn crc_bit(register: u32, b: u32) -> u32
 }
 
 // The register after the `width` low bits of `value`, highest first.
+#[tactic(auto, using(crate::proofs::Loops::crc_loop))]
 pub fn crc_bits(register: u32, width: u32, value: u64) -> u32
     ensures { result ≡ crc_from crc_width crc_generator register (bits width value) }
 {
     let mut c = register;
-    let mut left = width;
-    while 0 < left {
-        left -= 1;
+    for left in (0..width).rev() {
         c = crc_bit(c, bit_at(value, left));
     }
     c

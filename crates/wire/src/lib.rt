@@ -10,4 +10,4 @@ pub mod runs;
 
 pub use frames::{Frame, Received};
 pub use idents::{BaseId, ExtId, Ident};
-pub use runs::{Due, Run, Sampled};
+pub use runs::{Run, Sampled};

@@ -4,17 +4,11 @@ ghost use Rattle.wire.specs.Stuffing.{none, opposite, ran, due_as};
 ghost use Rattle.wire.specs.Unstuffing.{sampled_as};
 
 // The run of equal samples so far: the last sample, and how many equal ones end with it, up to five.
+// Before the first sample `last` is 2, which no sample equals: so the first one begins a run by the same test as any other.
 #[derive(Clone, Copy)]
 pub struct Run {
     pub last: u32,
     pub len: u32,
-}
-
-// What is due before the next bit of the stuffed part.
-#[derive(Clone, Copy)]
-pub enum Due {
-    Nothing,
-    Stuff(u32),
 }
 
 // What a sample of the stuffed part is.
@@ -28,7 +22,7 @@ pub enum Sampled {
 fn opposite(b: u32) -> u32
     ensures { result ≡ opposite b }
 {
-    if b == 0 { 1 } else { 0 }
+    u32::from(b == 0)
 }
 
 impl Run {
@@ -43,28 +37,22 @@ impl Run {
     pub fn ran(self, b: u32) -> Run
         ensures { result ≡ ran self b }
     {
-        if b == self.last {
-            if self.len < 5 {
-                Run {
-                    last: b,
-                    len: self.len + 1,
-                }
-            } else {
-                Run { last: b, len: 5 }
-            }
+        let len = if b == self.last {
+            self.len.min(4) + 1
         } else {
-            Run { last: b, len: 1 }
-        }
+            1
+        };
+        Run { last: b, len }
     }
 
-    // What goes on the wire before the next bit.
-    pub fn due(self) -> Due
+    // The stuff bit that is due before the next bit of the stuffed part, if one is.
+    pub fn due(self) -> Option<u32>
         ensures { result ≡ due_as self }
     {
         if self.len == 5 {
-            Due::Stuff(opposite(self.last))
+            Some(opposite(self.last))
         } else {
-            Due::Nothing
+            None
         }
     }
 
@@ -72,14 +60,12 @@ impl Run {
     pub fn hear(self, b: u32) -> Sampled
         ensures { result ≡ sampled_as self b }
     {
-        if self.len == 5 {
-            if b == self.last {
-                Sampled::SixthEqual
-            } else {
-                Sampled::StuffBit
-            }
-        } else {
+        if self.len != 5 {
             Sampled::FrameBit
+        } else if b == self.last {
+            Sampled::SixthEqual
+        } else {
+            Sampled::StuffBit
         }
     }
 }

@@ -1,18 +1,20 @@
 -- Laws shaped like what the branches of `write` leave to show: what a call of the writer answers.
 use Rattle.std.proofs.Common.{ℕ, ◌+◌, ◌-◌, ◌≤◌, ◌≡◌, refl, sym, ap, ◌∙◌, Bool, cond, List, ◌++◌, append_assoc, append-nil, zero-add, arith, eqb, length, take, drop, length-drop, drop_of_length-le, take_all, take_at, drop-drop, eq-eqb, ne_eqb}
-use Rattle.std.proofs.Math.Nat.{sub-zero}
-use Rattle.std.proofs.Math.Seq.{length-sets}
 use Rattle.std.proofs.lemmas.List.Edits.{sets, sets-eq}
 use Rattle.wire.specs.declared.frames.Frame.{Frame}
 use Rattle.wire.specs.Numbers.{longest_extended}
-use Rattle.writer.specs.declared.pen.Pen.{Pen}
+use Rattle.writer.specs.declared.page.Page.{Page}
 use Rattle.refusals.specs.Refusals.{frame_refusal, place_refusal, refusal}
 use Rattle.refusals.specs.RefusalsLaws.{start_fits, bits_fit}
 use Rattle.writer.specs.Writer.{wire_bits, outcome, refused, answer}
 use Rattle.writer.specs.WriterLaws.{refusal-first}
-use Rattle.writer.specs.Pages.{Page, page, marks, new_pen}
+use Rattle.writer.specs.Pages.{new_page, marks}
 use Rattle.writer.specs.PagesLaws.{marks-at, marks_out}
 use Rattle.writer.specs.LengthLaws.{sent-length}
+
+-- a copy to the front
+pub copied : (o b n : List ℕ) → length b ≤ length o → n ≡ b → n ++ drop (length b) o ≡ sets o 0 b
+copied o b n h e = rw (e, sets-eq b o 0 (omega (arith, h)), zero-add) refl
 
 -- a part from i to the end, when it is back
 middle : (c v : List ℕ) (i : ℕ) → i ≤ length c → length v ≤ length c - i
@@ -29,6 +31,15 @@ middle c v i h l =
       append_assoc (take i c) v (drop (i + length v) c),
     )
 
+-- a new page has room for the longest image
+room_for : length new_page.out ≡ longest_extended
+unfolding new_page
+room_for = refl
+
+front : new_page.pen.at ≡ 0
+unfolding new_page
+front = refl
+
 module _ (f : Frame) (old : Bool) (c : List ℕ) (start no : ℕ) (own : no ≡ frame_refusal f old) where
   refusal_by : refusal f old (length (wire_bits f)) (length c) start ≡ cond (eqb no 0) (place_refusal (length (wire_bits f)) (length c) start) no
   refusal_by = rw own (refusal-first f old c start)
@@ -37,23 +48,26 @@ module _ (f : Frame) (old : Bool) (c : List ℕ) (start no : ℕ) (own : no ≡ 
   unfolding answer
   answer_frame h = rw (refusal_by, ne_eqb no 0 h, ne_eqb no 0 h)
 
-  -- the image is drawn in a local array that has room for it
-  module _ (z : no ≡ 0) (blank drawn : List ℕ) (pen : Pen) (size : length blank ≡ longest_extended) (all : page drawn pen ≡ marks (page blank new_pen) (wire_bits f)) where
-    pub measured : pen.at ≡ length (wire_bits f)
-    measured = ap (λ (s : Page). s.pen.at) all ∙ marks-at (page blank new_pen) (wire_bits f) (omega (arith, sent-length f)) ∙ zero-add (length (wire_bits f))
+  -- the image is drawn on a page that has room for it
+  module _ (z : no ≡ 0) (p : Page) (all : p ≡ marks new_page (wire_bits f)) where
+    fits_new : new_page.pen.at + length (wire_bits f) ≤ length new_page.out
+    fits_new = omega (arith, front, room_for, sent-length f)
 
-    built : drawn ≡ sets blank 0 (wire_bits f)
-    built = ap (λ (s : Page). s.out) all ∙ marks_out (page blank new_pen) (wire_bits f) (omega (arith, sent-length f))
+    measured : p.pen.at ≡ length (wire_bits f)
+    measured = ap (λ (s : Page). s.pen.at) all ∙ marks-at new_page (wire_bits f) fits_new ∙ rw front (zero-add (length (wire_bits f)))
 
-    pub fits_local : pen.at ≤ length drawn
-    fits_local = rw (built, length-sets) (omega (arith, measured, sent-length f))
+    pub fits_page : p.pen.at ≤ longest_extended
+    fits_page = omega (arith, measured, sent-length f)
 
-    whole : take (pen.at - 0) drawn ≡ wire_bits f
+    built : p.out ≡ sets new_page.out 0 (wire_bits f)
+    built = ap (λ (s : Page). s.out) all ∙ marks_out new_page (wire_bits f) fits_new ∙ ap (λ (n : ℕ). sets new_page.out n (wire_bits f)) front
+
+    whole : take p.pen.at p.out ≡ wire_bits f
     whole =
-        rw (measured, sub-zero, built, sets-eq (wire_bits f) blank 0 (omega (arith, sent-length f)))
-        (take_at (wire_bits f) (drop (0 + length (wire_bits f)) blank) (length (wire_bits f)) refl)
+        rw (measured, built, sets-eq (wire_bits f) new_page.out 0 (omega (arith, room_for, sent-length f)))
+        (take_at (wire_bits f) (drop (0 + length (wire_bits f)) new_page.out) (length (wire_bits f)) refl)
 
-    module _ (misplaced : ℕ) (told : misplaced ≡ place_refusal pen.at (length c) start) where
+    module _ (misplaced : ℕ) (told : misplaced ≡ place_refusal p.pen.at (length c) start) where
       refusal_is : refusal f old (length (wire_bits f)) (length c) start ≡ misplaced
       refusal_is = rw (refusal_by, eq-eqb no 0 z, ← measured) (sym told)
 
@@ -62,11 +76,11 @@ module _ (f : Frame) (old : Bool) (c : List ℕ) (start no : ℕ) (own : no ≡ 
       answer_misplaced h = rw (refusal_is, ne_eqb misplaced 0 h)
 
       pub answer-placed : (part : List ℕ) → misplaced ≡ 0
-          → part ≡ sets (take (length c - start) (drop start c)) 0 (take (pen.at - 0) (drop 0 drawn))
-          → outcome (record { refusal = 0; bits = pen.at }) (take start c ++ (part ++ drop (length c - start) (drop start c))) ≡ answer f old c start
+          → part ≡ sets (take (length c - start) (drop start c)) 0 (take p.pen.at p.out)
+          → outcome (record { refusal = 0; bits = p.pen.at }) (take start c ++ (part ++ drop (length c - start) (drop start c))) ≡ answer f old c start
       unfolding answer
       answer-placed part n e =
-          let inside = start_fits pen.at (length c) start misplaced told n in
-          let room = bits_fit pen.at (length c) start misplaced told n in
+          let inside = start_fits p.pen.at (length c) start misplaced told n in
+          let room = bits_fit p.pen.at (length c) start misplaced told n in
           rw (refusal_is, eq-eqb misplaced 0 n)
           (rw (e, whole, middle c (wire_bits f) start inside (omega (arith, room, measured)), measured))

@@ -3,8 +3,7 @@ use Rattle.std.specs.Prelude.{ℕ, ◌≡◌, refl, ◌↔◌, Bool, true, List,
 use Rattle.wire.specs.declared.frames.Frame.{Frame}
 use Rattle.refusals.specs.Refusals.{Row, row, too_large, barred, overlong, miscounted, outside, overflows, frame_rows, refusal}
 use Rattle.refusals.specs.RefusalsLaws.{None, given_exactly, none_exactly}
-use Rattle.writer.specs.declared.written.Written.{Written}
-use Rattle.writer.specs.Writer.{wire_bits, outcome, answer}
+use Rattle.writer.specs.Writer.{wire_bits, Written, outcome, answer}
 use Rattle.writer.specs.WriterLaws.{rows, refusal-given}
 
 -- n is the refusal that 01 gives: each number exactly when its condition holds and none before it does

@@ -1,20 +1,20 @@
--- Laws of pages and drafts: each action goes part by part, and where there is room nothing is lost.
-use Rattle.std.specs.Prelude.{ℕ, suc, ◌+◌, ◌^◌, ◌≤◌, ◌<◌, ◌≡◌, refl, Bool, true, false, cond, List, [], ◌∷◌, ◌++◌, eqb, length, set}
+-- Laws of pages and sheets: each action goes part by part, and where there is room nothing is lost.
+use Rattle.std.specs.Prelude.{ℕ, suc, ◌+◌, ◌^◌, ◌≤◌, ◌<◌, ◌≡◌, refl, Bool, true, false, cond, List, [], ◌∷◌, ◌++◌, Option, Some, None, eqb, length, set}
 use Rattle.std.proofs.Common.{sym, ◌∙◌, add-zero, add-one, arith, length-set, lt-ltb, le-ltb}
 use Rattle.std.proofs.Math.Path.{ap}
 use Rattle.std.proofs.lemmas.List.Edits.{sets}
 use Rattle.std.proofs.Math.Seq.{set_out}
 use Rattle.wire.specs.declared.runs.Run.{Run}
-use Rattle.wire.specs.declared.runs.Due.{Due}
-use Rattle.wire.specs.declared.runs.Due.TheVariants.{Nothing, Stuff}
 use Rattle.wire.specs.Numbers.{five, crc_width, crc_generator}
 use Rattle.wire.proofs.CrcLaws.{crc-append}
 use Rattle.wire.specs.Stuffing.{ran, ran_from, Coded, dynamic, Sample, frame, stuff, wire, opposite, code_from, all}
 use Rattle.wire.proofs.StuffingLaws.{wire-append, all-append, run_after, code-append}
-use Rattle.writer.specs.declared.pen.Pen.{Pen}
+use Rattle.writer.specs.declared.page.Pen.{Pen}
+use Rattle.writer.specs.declared.page.Page.{Page}
+use Rattle.writer.specs.declared.sheet.Sheet.{Sheet}
 use Rattle.writer.specs.declared.coding.Coding.{Coding}
 use Rattle.writer.specs.declared.coding.Coding.TheVariants.{Dynamic, Plain}
-use Rattle.writer.specs.Pages.{Page, page, mark, marks, coded_bit, due_before, drawn, Sheet, laid}
+use Rattle.writer.specs.Pages.{page, mark, marks, coded_bit, due_before, drawn, laid}
 
 -- SAMPLES
 
@@ -68,40 +68,40 @@ unfolding drawn
 drawn-length s xs = marks-length s (wire (code_from s.pen.run xs))
 
 -- what is due, as samples
-abbrev owed : Due → List ℕ
-owed Nothing = []
-owed (Stuff b) = b ∷ []
+abbrev owed : Option ℕ → List ℕ
+owed None = []
+owed (Some b) = b ∷ []
 
 owed-sent : (how : Coding) (u : Run) (b : ℕ) → wire (code_from u (coded_bit how b ∷ [])) ≡ owed (due_before how u) ++ (b ∷ [])
 owed-sent Plain u b = refl
 owed-sent Dynamic u b = go (eqb u.len five)
   where
     go : (t : Bool) → wire (cond t (record { why = stuff; bit = opposite u.last } ∷ []) [] ++ (record { why = frame; bit = b } ∷ []) ++ [])
-        ≡ owed (cond t (Stuff (opposite u.last)) Nothing) ++ (b ∷ [])
+        ≡ owed (cond t (Some (opposite u.last)) None) ++ (b ∷ [])
     go true = refl
     go false = refl
 
 -- a stuff bit is 0 or 1, and so a byte
-pub owed_byte : (how : Coding) (u : Run) (d : Due) (x : ℕ) → d ≡ due_before how u → d ≡ Stuff x → x < 2 ^ 8
+pub owed_byte : (how : Coding) (u : Run) (d : Option ℕ) (x : ℕ) → d ≡ due_before how u → d ≡ Some x → x < 2 ^ 8
 owed_byte Plain u d x e q = absurd (let z : ◌≡◌ {A = ℕ} 0 1 = cc in omega arith)
 owed_byte Dynamic u d x e q = go (eqb u.len five) (sym e ∙ q)
   where
-    go : (t : Bool) → cond t (Stuff (opposite u.last)) Nothing ≡ Stuff x → x < 2 ^ 8
+    go : (t : Bool) → cond t (Some (opposite u.last)) None ≡ Some x → x < 2 ^ 8
     go true q = let z : opposite u.last ≡ x = cc in omega arith
     go false q = absurd (let z : ◌≡◌ {A = ℕ} 0 1 = cc in omega arith)
 
-module _ (s : Page) (how : Coding) (d : Due) (b : ℕ) (told : d ≡ due_before how s.pen.run) where
+module _ (s : Page) (how : Coding) (d : Option ℕ) (b : ℕ) (told : d ≡ due_before how s.pen.run) where
   drawn_bit : drawn s (coded_bit how b ∷ []) ≡ marks s (owed d ++ (b ∷ []))
   unfolding drawn
-  drawn_bit = ap (marks s) (owed-sent how s.pen.run b) ∙ ap (λ (e : Due). marks s (owed e ++ (b ∷ []))) (sym told)
+  drawn_bit = ap (marks s) (owed-sent how s.pen.run b) ∙ ap (λ (e : Option ℕ). marks s (owed e ++ (b ∷ []))) (sym told)
 
-  pub bit_alone : (t : Page) → d ≡ Nothing → t ≡ marks s (b ∷ []) → t ≡ drawn s (coded_bit how b ∷ [])
-  bit_alone t e p = p ∙ sym (drawn_bit ∙ ap (λ (e : Due). marks s (owed e ++ (b ∷ []))) e)
+  pub bit_alone : (t : Page) → d ≡ None → t ≡ marks s (b ∷ []) → t ≡ drawn s (coded_bit how b ∷ [])
+  bit_alone t e p = p ∙ sym (drawn_bit ∙ ap (λ (e : Option ℕ). marks s (owed e ++ (b ∷ []))) e)
 
-  pub bit_behind : (x : ℕ) (t v : Page) → d ≡ Stuff x → t ≡ marks s (x ∷ []) → v ≡ marks t (b ∷ []) → v ≡ drawn s (coded_bit how b ∷ [])
-  bit_behind x t v e p q = rw (q, p) (sym (drawn_bit ∙ ap (λ (e : Due). marks s (owed e ++ (b ∷ []))) e))
+  pub bit_behind : (x : ℕ) (t v : Page) → d ≡ Some x → t ≡ marks s (x ∷ []) → v ≡ marks t (b ∷ []) → v ≡ drawn s (coded_bit how b ∷ [])
+  bit_behind x t v e p q = rw (q, p) (sym (drawn_bit ∙ ap (λ (e : Option ℕ). marks s (owed e ++ (b ∷ []))) e))
 
--- DRAFTS
+-- SHEETS
 
 pub laid-append : (s : Sheet) (xs ys : List ℕ) → laid s (xs ++ ys) ≡ laid (laid s xs) ys
 unfolding laid

@@ -5,10 +5,9 @@ use Rattle.std.proofs.Common.{sym, ap, ◌∙◌, append_assoc, arith, length-ap
 use Rattle.std.proofs.Math.ListN.{get_or-append}
 use Rattle.std.proofs.lemmas.Bool.{eqb-false}
 use Rattle.wire.specs.declared.frames.Frame.{Frame}
-use Rattle.writer.specs.declared.written.Written.{Written}
 use Rattle.refusals.specs.Refusals.{Row, frame_rows, place_rows, frame_refusal, place_refusal, refusal}
 use Rattle.refusals.specs.RefusalsLaws.{taken_unmarked, first-append, start_fits, bits_fit}
-use Rattle.writer.specs.Writer.{wire_bits, Outcome, outcome, refused, placed, answer}
+use Rattle.writer.specs.Writer.{wire_bits, Written, Outcome, outcome, refused, placed, answer}
 
 module _ (f : Frame) (old : Bool) (c : List ℕ) (start : ℕ) where
   -- every row that is tried

@@ -1,49 +1,30 @@
 // The public call: the whole capture and a start position, both checked.
 ghost use Rattle.std.specs.Prelude.{◌≡◌, ◌≤◌, length};
 ghost use Rattle.std.proofs.lemmas.List.Edits.{sets};
-ghost use Rattle.writer.specs.Writer.{outcome, answer};
+ghost use Rattle.writer.specs.Writer.{as_written, outcome, answer};
 
 use crate::image::draw;
-use crate::written::Written;
-use refusals::{frame_refusal, place_refusal};
+use refusals::{Refusal, frame_refusal, place_refusal};
 use wire::Frame;
 
-// No image is longer.
-const LONGEST: usize = 157;
-
 // All of `image` at the front of `out`.
+#[tactic(auto, using(crate::proofs::Answers::copied))]
 fn copy_front(out: &mut [u8], image: &[u8])
     requires { length image.now ≤ length out.old }
     ensures { out.new ≡ sets out.old 0 image.now }
 {
-    let mut k = 0;
-    while k < image.len() {
-        out[k] = image[k];
-        k += 1;
-    }
+    out[..image.len()].copy_from_slice(image);
 }
 
-// The wire image of `frame` into `capture` from `start` on; or a refusal, and no byte changes. `old` marks old controllers.
-pub fn write(frame: Frame, old: bool, capture: &mut [u8], start: usize) -> Written
-    ensures { outcome result capture.new ≡ answer frame old capture.old start }
+// The wire image of `frame` into `capture` from `start` on, and how many bits it has; or a refusal, and no byte changes.
+// `old` marks old controllers.
+pub fn write(frame: Frame, old: bool, capture: &mut [u8], start: usize) -> Result<usize, Refusal>
+    ensures { outcome (as_written result) capture.new ≡ answer frame old capture.old start }
 {
-    let no = frame_refusal(frame, old);
-    if no != 0 {
-        return Written {
-            refusal: no,
-            bits: 0,
-        };
-    }
-    let mut image = [0u8; LONGEST];
-    let pen = draw(frame, &mut image);
-    let bits = pen.at;
-    let misplaced = place_refusal(bits, capture.len(), start);
-    if misplaced != 0 {
-        return Written {
-            refusal: misplaced,
-            bits: 0,
-        };
-    }
-    copy_front(&mut capture[start..], &image[0..bits]);
-    Written { refusal: 0, bits }
+    frame_refusal(frame, old)?;
+    let page = draw(frame);
+    let bits = page.pen.at;
+    place_refusal(bits, capture.len(), start)?;
+    copy_front(&mut capture[start..], &page.out[..bits]);
+    Ok(bits)
 }

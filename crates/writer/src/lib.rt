@@ -1,13 +1,11 @@
-// The writer: turns a frame into wire bits in a lent capture, or refuses it by number.
+// The writer: turns a frame into wire bits in a lent capture, or refuses it.
 #![tactic(auto)]
 
 mod capture;
 mod coding;
-mod draft;
 mod head;
 mod image;
-mod pen;
-mod written;
+mod page;
+mod sheet;
 
 pub use capture::write;
-pub use written::Written;

@@ -4,4 +4,4 @@ use Rattle.claims.proofs.HeardBack.{readied}
 use Rattle.claims.proofs.reads_back.ready_listener.Goals as goal
 
 pub returns : goal.returns
-returns c = readied _ _ _ c.new.ensures refl c.next-f.ensures
+returns c = readied _ _ _ c.new.ensures refl c.next.ensures

@@ -8,6 +8,3 @@ use Rattle.wire.proofs.crc.crc_bits.Given as goal
 abbrev pub invariant-loop-left : goal.invariant-loop-left
 invariant-loop-left l =
     crc_from crc_width crc_generator l.c (bits l.left l.value) ≡ crc_from crc_width crc_generator l.fn.register (bits l.fn.width l.value)
-
-abbrev pub decreases-loop-left : goal.decreases-loop-left
-decreases-loop-left l = l.left

@@ -1,38 +1,42 @@
--- Each branch is one law of `Answers`; the last is given its facts by hand, since a search over all of them takes too long.
-use Rattle.std.proofs.Common.{rules, sym, ◌∙◌}
+-- Each way out is one law of `Answers`, at what the two tests and `draw` ensure.
+use Rattle.std.proofs.Common.{refl, sym}
+use Rattle.std.proofs.lemmas.Result.{err_from_is_err_and}
+use Rattle.refusals.specs.RefusalLaws.{number-some}
 use Rattle.refusals.specs.RefusalsLaws.{taken_unmarked}
-use Rattle.writer.proofs.Answers.{answer_frame, answer_misplaced, answer-placed, fits_local}
+use Rattle.writer.proofs.Answers.{answer_frame, answer_misplaced, answer-placed, fits_page}
 use Rattle.writer.proofs.capture.write.Goals as goal
 
-pub returns-then-no-ne0 : goal.returns-then-no-ne0
-returns-then-no-ne0 c = search (answer_frame)
+pub returns-in_err-frame_refusal : goal.returns-in_err-frame_refusal
+returns-in_err-frame_refusal c =
+    let p = err_from_is_err_and c.from_residual.result c.from_residual.ensures.1 in
+    rw (p.1, p.2) (answer_frame _ _ _ _ _ c.in_err-frame_refusal.ensures (number-some _))
 
-pub draw-pen-requires : goal.draw-pen-requires
-draw-pen-requires c = taken_unmarked _ _ (sym c.frame_refusal-no.ensures ∙ c.if-no-ne0.false)
+pub draw-page-requires : goal.draw-page-requires
+draw-page-requires c = taken_unmarked _ _ (sym c.in_ok-frame_refusal.ensures)
 
-pub returns-then-misplaced-ne0 : goal.returns-then-misplaced-ne0
-returns-then-misplaced-ne0 c = search (answer_misplaced)
+pub returns-in_err-place_refusal : goal.returns-in_err-place_refusal
+returns-in_err-place_refusal c =
+    let p = err_from_is_err_and c.from_residual-in_err-place_refusal.result c.from_residual-in_err-place_refusal.ensures.1 in
+    rw (p.1, p.2)
+    (answer_misplaced _ _ _ _ _ c.in_ok-frame_refusal.ensures refl _ c.draw-page.ensures _ c.in_err-place_refusal.ensures (number-some _))
 
-pub slice_bounds-copy_front-end-2 : goal.slice_bounds-copy_front-end-2
-slice_bounds-copy_front-end-2 c = search (fits_local, rules)
+pub shared_ref_as_front-copy_front : goal.shared_ref_as_front-copy_front
+shared_ref_as_front-copy_front c = fits_page _ _ c.args.capture.now c.args.start _ c.in_ok-frame_refusal.ensures refl _ c.draw-page.ensures
 
 pub returns : goal.returns
 returns c =
     answer-placed
-    c.args.frame
-    c.args.old
+    _
+    _
     c.args.capture.now
     c.args.start
-    c.frame_refusal-no.result
-    c.frame_refusal-no.ensures
-    c.if-no-ne0.false
     _
+    c.in_ok-frame_refusal.ensures
+    refl
     _
-    c.draw-pen.result
-    (search rules)
-    c.draw-pen.ensures
-    c.place_refusal-misplaced.result
-    c.place_refusal-misplaced.ensures
+    c.draw-page.ensures
     _
-    c.if-misplaced-ne0.false
+    c.in_ok-place_refusal.ensures
+    _
+    refl
     c.copy_front.ensures

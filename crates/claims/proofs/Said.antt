@@ -1,0 +1,37 @@
+-- An answer is told by its words: no two answers are said alike. By the answer that words stand for.
+use Rattle.std.proofs.Common.{◌≡◌, refl, sym, ap, ◌∙◌}
+use Rattle.moves.specs.declared.places.Fault.TheVariants.{StuffError, FormError, CrcError, Overload, NewerFormat}
+use Rattle.listener.specs.declared.answers.Answer.{Answer}
+use Rattle.listener.specs.declared.answers.Answer.TheVariants.{Nothing, Handed, Trouble, Refused}
+use Rattle.listener.specs.declared.answers.Found.{Found}
+use Rattle.claims.specs.Answers.{Said, nothing, handed, stuff_error, form_error, crc_error, overload, newer_format, refused, answer_said, FoundSaid, found_said}
+
+abbrev answer_of : Said → Answer
+answer_of nothing = Nothing
+answer_of (handed r) = Handed r
+answer_of stuff_error = Trouble StuffError
+answer_of form_error = Trouble FormError
+answer_of crc_error = Trouble CrcError
+answer_of overload = Trouble Overload
+answer_of newer_format = Trouble NewerFormat
+answer_of (refused n) = Refused n
+
+worded : (a : Answer) → answer_of (answer_said a) ≡ a
+worded Nothing = refl
+worded (Handed r) = refl
+worded (Trouble StuffError) = refl
+worded (Trouble FormError) = refl
+worded (Trouble CrcError) = refl
+worded (Trouble Overload) = refl
+worded (Trouble NewerFormat) = refl
+worded (Refused n) = refl
+
+pub said-injective : (a b : Answer) → answer_said a ≡ answer_said b → a ≡ b
+said-injective a b e = sym (worded a) ∙ ap answer_of e ∙ worded b
+
+pub found_said-injective : (f g : Found) → found_said f ≡ found_said g → f ≡ g
+found_said-injective f g e =
+    let says : f.heard.answer ≡ g.heard.answer = said-injective f.heard.answer g.heard.answer (ap (λ (s : FoundSaid). s.says) e) in
+    let at : f.at ≡ g.at = ap (λ (s : FoundSaid). s.at) e in
+    let next : f.heard.next ≡ g.heard.next = ap (λ (s : FoundSaid). s.next) e in
+    rw (says, at, next)
