@@ -14,7 +14,7 @@ use Rattle.listener.specs.Listener.{new_listener, refused, fits, found_at, seek,
 use Rattle.refusals.specs.Refusals.{frame_refusal}
 use Rattle.writer.specs.Writer.{wire_bits, Written, outcome, answer}
 use Rattle.writer.specs.WriterLaws.{frame_taken, inside, capture_placed}
-use Rattle.claims.specs.Answers.{nothing, handed, FoundSaid, found_said}
+use Rattle.claims.specs.Answers.{nothing, handed}
 use Rattle.claims.specs.Lines.{recessive, reply}
 use Rattle.claims.specs.Histories.{Listening, after_calls, answers_to}
 use Rattle.claims.specs.ReadBack.{read_as, EightBytes, ready_listener, handed_out, came_back, heard_back, read_back}
@@ -77,18 +77,16 @@ module _ (f : Frame) (old : Bool) (c c' : List ℕ) (start : ℕ) (w : Written) 
         (sym (image_back f taken b))
         (ready_hears (read_as f) (legal_back f taken b))
 
-    handed_out_lem : EightBytes f → found_said (found ready_listener c' start) ≡ handed_out f start
+    handed_out_lem : EightBytes f → found ready_listener c' start ≡ handed_out f start
     handed_out_lem b =
-        ap found_said
-        (found-fits ready_listener c' start fits_ready
+        found-fits ready_listener c' start fits_ready
         ∙ ap (seek ready_listener start) from_start
-        ∙ seek-reply ready_listener start (wire_bits f) (drop (start + length (wire_bits f)) c) (read_as f) (sent-heard b))
+        ∙ seek-reply ready_listener start (wire_bits f) (drop (start + length (wire_bits f)) c) (read_as f) (sent-heard b)
 
     pub back_handed : EightBytes f → {l : Listener} {x : Found} → l ≡ ready_listener → x ≡ found l c' start
         → came_back x c' ≡ read_back f old c start
     back_handed b ready e =
-        ap (λ (y : Found). came_back y c') (e ∙ ap (λ (k : Listener). found k c' start) ready)
-        ∙ ap (λ (s : FoundSaid). record { found = s; capture = c' }) (handed_out_lem b)
+        ap (λ (y : Found). came_back y c') (e ∙ ap (λ (k : Listener). found k c' start) ready ∙ handed_out_lem b)
         ∙ sym (rw (back_by, eq-eqb w.refusal 0 z))
 
   pub back_refused : (w.refusal ≡ 0 → ⊥) → {l : Listener} {h : Heard} {x : Found}

@@ -3,8 +3,7 @@ use Rattle.std.proofs.Common.{◌≡◌, refl, sym, ap, ◌∙◌}
 use Rattle.moves.specs.declared.places.Fault.TheVariants.{StuffError, FormError, CrcError, Overload, NewerFormat}
 use Rattle.listener.specs.declared.answers.Answer.{Answer}
 use Rattle.listener.specs.declared.answers.Answer.TheVariants.{Nothing, Handed, Trouble, Refused}
-use Rattle.listener.specs.declared.answers.Found.{Found}
-use Rattle.claims.specs.Answers.{Said, nothing, handed, stuff_error, form_error, crc_error, overload, newer_format, refused, answer_said, FoundSaid, found_said}
+use Rattle.claims.specs.Answers.{Said, nothing, handed, stuff_error, form_error, crc_error, overload, newer_format, refused, answer_said}
 
 abbrev answer_of : Said → Answer
 answer_of nothing = Nothing
@@ -28,10 +27,3 @@ worded (Refused n) = refl
 
 pub said-injective : (a b : Answer) → answer_said a ≡ answer_said b → a ≡ b
 said-injective a b e = sym (worded a) ∙ ap answer_of e ∙ worded b
-
-pub found_said-injective : (f g : Found) → found_said f ≡ found_said g → f ≡ g
-found_said-injective f g e =
-    let says : f.heard.answer ≡ g.heard.answer = said-injective f.heard.answer g.heard.answer (ap (λ (s : FoundSaid). s.says) e) in
-    let at : f.at ≡ g.at = ap (λ (s : FoundSaid). s.at) e in
-    let next : f.heard.next ≡ g.heard.next = ap (λ (s : FoundSaid). s.next) e in
-    rw (says, at, next)

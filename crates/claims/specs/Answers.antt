@@ -3,11 +3,9 @@ use Rattle.std.specs.Prelude.{ℕ}
 use Rattle.wire.specs.declared.frames.Received.{Received}
 use Rattle.moves.specs.declared.places.Fault.{Fault}
 use Rattle.moves.specs.declared.places.Fault.TheVariants.{StuffError, FormError, CrcError, Overload, NewerFormat}
-use Rattle.listener.specs.declared.listeners.Listener.{Listener}
 use Rattle.listener.specs.declared.answers.Answer.{Answer}
 use Rattle.listener.specs.declared.answers.Answer.TheVariants.{Nothing, Handed, Trouble, Refused}
 use Rattle.listener.specs.declared.answers.Heard.{Heard}
-use Rattle.listener.specs.declared.answers.Found.{Found}
 
 pub data Said : Type 0 where
   nothing : Said
@@ -34,12 +32,3 @@ answer_said (Refused n) = refused n
 
 abbrev pub said : Heard → Said
 said h = answer_said h.answer
-
--- what a call over a capture says, the position of the sample that is answered so, and the record behind it
-pub record FoundSaid : Type 0 where
-  pub says : Said
-  pub at : ℕ
-  pub next : Listener
-
-abbrev pub found_said : Found → FoundSaid
-found_said f = record { says = said f.heard; at = f.at; next = f.heard.next }

@@ -5,9 +5,10 @@ use Rattle.wire.specs.declared.frames.Received.{Received}
 use Rattle.wire.specs.Numbers.{room, byte_width, idle}
 use Rattle.wire.specs.Fields.{trimmed}
 use Rattle.listener.specs.declared.listeners.Listener.{Listener}
+use Rattle.listener.specs.declared.answers.Answer.TheVariants.{Handed}
 use Rattle.listener.specs.declared.answers.Found.{Found}
+use Rattle.listener.specs.Listener.{refused, found_at}
 use Rattle.writer.specs.Writer.{wire_bits, Outcome, answer}
-use Rattle.claims.specs.Answers.{handed, refused, FoundSaid, found_said}
 use Rattle.claims.specs.Lines.{recessive, all_but_last}
 use Rattle.claims.specs.Histories.{after_calls, reached}
 
@@ -32,33 +33,31 @@ unfoldable pub ready_listener : Listener
 ready_listener = reached (recessive idle)
 
 -- the frame is handed out, at the last but one of the samples that it goes over the wire as
-abbrev pub handed_out : Frame → ℕ → FoundSaid
+abbrev pub handed_out : Frame → ℕ → Found
 handed_out f start =
     record {
-      says = handed (read_as f);
+      heard = record { answer = Handed (read_as f); next = after_calls ready_listener (all_but_last (wire_bits f)) };
       at = start + (length (wire_bits f) - 2);
-      next = after_calls ready_listener (all_but_last (wire_bits f));
     }
 
 -- the writer's refusal, by its number: the listener is as it was
-abbrev pub not_written : ℕ → ℕ → FoundSaid
-not_written n start = record { says = refused n; at = start; next = ready_listener }
+abbrev pub not_written : ℕ → ℕ → Found
+not_written n start = found_at start (refused n ready_listener)
 
--- the call's answer in document 01's words, and every byte of the capture behind it
+-- the call's answer, and every byte of the capture behind it
 pub record CameBack : Type 0 where
-  pub found : FoundSaid
+  pub found : Found
   pub capture : List ℕ
 
 abbrev pub came_back : Found → List ℕ → CameBack
-came_back r capture = record { found = found_said r; capture = capture }
+came_back r capture = record { found = r; capture = capture }
 
 -- by what the writer answers, and as it leaves the capture
 abbrev pub heard_back : Frame → ℕ → Outcome → CameBack
 heard_back f start o =
-    record {
-      found = cond (eqb o.written.refusal 0) (handed_out f start) (not_written o.written.refusal start);
-      capture = o.capture;
-    }
+    came_back
+    (cond (eqb o.written.refusal 0) (handed_out f start) (not_written o.written.refusal start))
+    o.capture
 
 unfoldable pub read_back : Frame → Bool → List ℕ → ℕ → CameBack
 read_back f old capture start = heard_back f start (answer f old capture start)

@@ -17,6 +17,7 @@ fn ready_listener() -> Listener
 }
 
 // The frame that was written is handed out; or the writer's refusal is the answer, and no byte changes. `old` marks old controllers.
+// Its arguments are `write`'s, each the caller's own.
 pub fn read_back(frame: Frame, old: bool, capture: &mut [u8], start: usize) -> Found
     ensures { came_back result capture.new ≡ read_back frame old capture.old start }
 {

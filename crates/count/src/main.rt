@@ -10,7 +10,7 @@ use std::io::{Read, Write};
 // So many bytes are read at a time, at most.
 const PIECE: usize = 4096;
 
-// One event, by its number.
+// One event, by its number, as document 01 has them and `replay` takes them.
 fn take_event(out: &mut impl Write, l: Ledger, number: u8) -> io::Result<Ledger> {
     let next = l.replay(&[number]).unwrap_or_else(|refused| refused.0);
     writeln!(out, "{next}")?;
@@ -38,7 +38,8 @@ fn take_piece(out: &mut impl Write, mut l: Ledger, piece: &[u8]) -> io::Result<L
     Ok(l)
 }
 
-// The input to its end. Nothing says that it ends, so the pieces are counted, up to a number of them that no run uses up.
+// The input to its end. Nothing says that it ends, so the pieces are counted, up to a number of them that no run uses up. Each program
+// has such a loop over a state of its own: one for all would need a contract over any reader and any state.
 fn take_all(input: &mut impl Read, out: &mut impl Write) -> io::Result<()> {
     let mut piece = [0u8; PIECE];
     let mut l = Ledger::new();

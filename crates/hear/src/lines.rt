@@ -4,7 +4,7 @@ use std::fmt;
 use wire::{Frame, Ident, Received};
 
 // A frame as can-utils writes it: 3 digits for a base identifier or 8 for an extended one, `#`, and the bytes; or `R` for a remote frame.
-// The length code stands behind them where they do not tell it.
+// The length code stands behind them where they do not tell it. (`samples` says frames in other words.)
 #[derive(Drop)]
 struct Notation(Frame);
 

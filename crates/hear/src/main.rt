@@ -24,7 +24,7 @@ fn tell(out: &mut impl Write, line: Line) -> io::Result<()> {
     out.write_all(text.get_ref().get(..end).unwrap_or(&[]))
 }
 
-// Hear samples, of which the first has the number `first`. Each turn asks for the next answer, wherever it is, and so no index is counted:
+// Hear samples, of which the first has the number `first`. Each turn asks for the next answer, and the index goes on from where it was found:
 // sample by sample the record's ranges would be looked at for each one, which takes twice as long.
 fn hear(out: &mut impl Write, from: Listener, samples: &[u8], first: u64) -> io::Result<Listener> {
     let mut listener = from;

@@ -8,6 +8,7 @@ fn is_skipped(b: u8) -> bool
     matches!(b, b' ' | b'\t' | b'\r' | b'\n')
 }
 
+// The letters `0` and `1` are the samples 0 and 1. `samples` has the same: the wire knows no letters, and no program can take from another.
 fn sample(b: u8) -> u8
     ensures { result ≡ sample_of b }
 {

@@ -18,8 +18,8 @@ impl Ledger {
         }
     }
 
-    // A history lent as event numbers, the oldest first, as C can lend one too; a number above 10 is no event. The record is looked at
-    // once, at the start.
+    // A history lent as event numbers, the oldest first: any bytes are one (`after_all` over `events`), and C can lend them. A number above
+    // 10 is no event. The record is looked at once, at the start.
     #[tactic(auto, using(crate::specs::HistoryLaws::run_fold), unfolding(crate::specs::History::after_all))]
     pub fn replay(self, numbers: &[u8]) -> Result<Ledger, OutOfRange>
         ensures { told result ≡ after_all (events numbers.now) self }

@@ -9,6 +9,7 @@ use counts::{ReceiveCount, TransmitCount, is_passive};
 use std::fmt;
 
 // Both counts; when bus-off, also whether a recovery was asked for, and the groups of eleven recessive bits seen since. Ranges: docs/RANGES.md.
+// Two fields and no Option: a record with groups that nobody asked for can be handed in, and is refused with 7 (`in_range`).
 #[derive(Clone, Copy, Debug, PartialEq, Eq)]
 pub struct Ledger {
     pub transmit: TransmitCount,

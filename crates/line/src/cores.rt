@@ -45,7 +45,7 @@ impl Core {
         }
     }
 
-    // Is every number in its range?
+    // Is every number in its range? Asked at run time, since any record can be handed in: 7 is the answer to one out of its ranges.
     pub fn fits(self) -> bool
         ensures { result ≡ core_fits self }
     {

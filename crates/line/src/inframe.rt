@@ -7,7 +7,8 @@ use reader::{Field, Reader};
 use wire::Run;
 use wire::crc::crc_bit;
 
-// The run of equal samples, the reader, the CRC's register over the bits of the frame, and the acknowledge slot.
+// The run of equal samples, the reader, the CRC's register over the bits of the frame, and the acknowledge slot, which is a number and no
+// bool: one out of its range is refused with 7 (`frame_fits`).
 #[derive(Clone, Copy)]
 pub struct InFrame {
     pub run: Run,
@@ -46,7 +47,7 @@ impl InFrame {
         }
     }
 
-    // Is every number in its range?
+    // Is every number in its range? (As in `Core::fits`.)
     pub(crate) fn fits(self) -> bool
         ensures { result ≡ frame_fits self }
     {

@@ -23,7 +23,7 @@ pub struct Heard {
     pub next: Listener,
 }
 
-// What was heard, and the position of the sample that was answered so.
+// What was heard, and the position of the sample that was answered so; where nothing was, the one behind the last sample.
 #[derive(Clone, Copy)]
 pub struct Found {
     pub heard: Heard,

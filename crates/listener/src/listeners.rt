@@ -27,7 +27,7 @@ impl Listener {
         }
     }
 
-    // Is every number in its range?
+    // Is every number in its range? (As in `Core::fits`.)
     fn fits(self) -> bool
         ensures { result ≡ fits self }
     {
@@ -96,22 +96,31 @@ impl Listener {
     }
 
     // The first answer that is not "nothing", from the sample at a position on, where the record is within its ranges. Every step
-    // keeps it so: no range is tested for a sample.
+    // keeps it so, and a data byte is stored in place: no range is tested for a sample, and no array copied.
     fn seek(self, capture: &[u8], from: usize) -> Found
         requires { fits self ≡ true }
         ensures { result ≡ seek self from (drop from capture.now) }
     {
-        let mut listener = self;
+        let Listener {
+            mut core,
+            mut bytes,
+        } = self;
         for at in from..capture.len() {
-            let heard = listener.offered(capture[at]);
-            match heard.answer {
-                Answer::Nothing => listener = heard.next,
-                _ => return heard.found(at),
+            let sample = capture[at];
+            if 1 < sample {
+                let refusal = Refusal::Sample.number();
+                return Heard::refused(refusal, Listener { core, bytes }).found(at);
+            }
+            let stepped = core.step(sample as u32);
+            core = stepped.core;
+            match stepped.event {
+                Event::Keep(kept) => keep(&mut bytes, kept),
+                event => return Listener { core, bytes }.answer(event).found(at),
             }
         }
         let heard = Heard {
             answer: Answer::Nothing,
-            next: listener,
+            next: Listener { core, bytes },
         };
         heard.found(from.max(capture.len()))
     }

@@ -1,4 +1,4 @@
-// What a sample asks for, place by place.
+// What a sample asks for, place by place: a function for each row of document 01's table, though some rows are alike.
 ghost use Rattle.std.specs.Prelude.{◌≡◌};
 ghost use Rattle.moves.specs.Moves.{quiet_after, when_waiting, when_ready, when_delimiter, when_fdf, when_bit, when_stuffed, when_ack_delimiter, when_end_of_frame, when_intermission};
 
@@ -25,13 +25,7 @@ pub enum Move {
 pub fn quiet_after(quiet: u32, b: u32) -> u32
     ensures { result ≡ quiet_after quiet b }
 {
-    if b == 0 {
-        0
-    } else if quiet < 11 {
-        quiet + 1
-    } else {
-        11
-    }
+    if b == 0 { 0 } else { quiet.min(10) + 1 }
 }
 
 pub fn when_waiting(quiet: u32) -> Move

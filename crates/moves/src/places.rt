@@ -44,7 +44,7 @@ impl fmt::Display for Fault {
 }
 
 impl Place {
-    // Is its count in its range?
+    // Is its count in its range? Asked at run time, since any record can be handed in: 7 is the answer to one out of its ranges.
     pub fn fits(self) -> bool
         ensures { result ≡ place_fits self }
     {

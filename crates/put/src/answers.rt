@@ -9,9 +9,12 @@ fn letter(sample: u8) -> u8 {
     if sample == 0 { b'0' } else { b'1' }
 }
 
-// The wire image, for which the capture has room, or the refusal.
+// Room for any image.
+const ROOM: usize = 160;
+
+// The wire image, or the refusal.
 fn write_image(out: &mut impl Write, frame: Frame, old: bool) -> io::Result<()> {
-    let mut capture = [0u8; 160];
+    let mut capture = [0u8; ROOM];
     match writer::write(frame, old, &mut capture, 0) {
         Ok(bits) => {
             out.write_all(capture.map(letter).get(..bits).unwrap_or(&[]))?;

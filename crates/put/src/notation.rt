@@ -1,5 +1,6 @@
 // A frame as can-utils writes it: 3 hex digits for a base identifier or 8 for an extended one, `#`, and then up to 8 bytes as pairs of digits,
 // with `_` and a digit where the code is not the byte count; or `R`, with a digit for the code if it is not 0, and `.` before bytes.
+use wire::frames::ROOM;
 use wire::{BaseId, ExtId, Frame, Ident};
 
 // The number that hex digits stand for, capital or small.
@@ -22,9 +23,9 @@ fn code(digit: &str) -> Option<u8> {
     Some(value as u8)
 }
 
-// Up to eight bytes from pairs of digits, and how many they are.
-fn bytes(pairs: &str) -> Option<([u8; 8], u8)> {
-    let mut bytes = [0u8; 8];
+// Up to eight bytes from pairs of digits, and how many they are, as a frame holds them.
+fn bytes(pairs: &str) -> Option<([u8; ROOM], u8)> {
+    let mut bytes = [0u8; ROOM];
     let count = pairs.len() / 2;
     hex::decode_to_slice(pairs, bytes.get_mut(..count)?).ok()?;
     Some((bytes, count as u8))

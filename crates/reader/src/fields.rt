@@ -77,7 +77,7 @@ impl Field {
         }
     }
 
-    // Is a data byte's place within the room for bytes?
+    // Is a data byte's place within the room for bytes? (As in `Registers::fits`.)
     pub fn fits(self) -> bool
         ensures { result ≡ field_fits self }
     {

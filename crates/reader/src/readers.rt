@@ -55,7 +55,7 @@ impl Reader {
         begun(Registers::new(), Field::Upper)
     }
 
-    // Is every number in its range?
+    // Is every number in its range? (As in `Registers::fits`.)
     pub fn fits(self) -> bool
         ensures { result ≡ reader_fits self }
     {

@@ -8,7 +8,8 @@ use crate::fields::Field;
 use wire::frames::{ROOM, carried};
 use wire::{BaseId, ExtId, Frame, Ident};
 
-// What each field held, as it came. The data bytes are not kept here: each is handed on as it is whole.
+// What each field held, as it came. The data bytes are not kept here: each is handed on as it is whole. Single bits are numbers and no
+// bools: one out of its range is refused with 7 (`registers_fit`).
 #[derive(Clone, Copy, Default)]
 pub struct Registers {
     pub upper: u32,
@@ -26,18 +27,6 @@ fn note(b: u32, noted: u32, weight: u8) -> u8
     ensures { (result ≡ note_of b noted weight) × (result ≤ weight) }
 {
     if b == noted { weight } else { 0 }
-}
-
-fn after_ide(ide: u32) -> Field
-    ensures { result ≡ after_ide ide }
-{
-    if ide == 0 { Field::Fdf } else { Field::Lower }
-}
-
-fn after_fdf(ide: u32) -> Field
-    ensures { result ≡ after_fdf ide }
-{
-    if ide == 0 { Field::Code } else { Field::R0 }
 }
 
 // The data byte at i of n, or the CRC behind the last.
@@ -65,7 +54,7 @@ impl Registers {
         Registers::default()
     }
 
-    // Is every number in its range?
+    // Is every number in its range? Asked at run time, since any record can be handed in: 7 is the answer to one out of its ranges.
     pub fn fits(self) -> bool
         ensures { result ≡ registers_fit self }
     {
@@ -156,10 +145,12 @@ impl Registers {
         match field {
             Field::Upper => Field::Srr,
             Field::Srr => Field::Ide,
-            Field::Ide => after_ide(self.ide),
+            Field::Ide if self.ide == 0 => Field::Fdf,
+            Field::Ide => Field::Lower,
             Field::Lower => Field::Rtr,
             Field::Rtr => Field::Fdf,
-            Field::Fdf => after_fdf(self.ide),
+            Field::Fdf if self.ide == 0 => Field::Code,
+            Field::Fdf => Field::R0,
             Field::R0 => Field::Code,
             Field::Code => data_or_crc(0, self.bytes_to_come()),
             Field::Data(i) => after_data(i, self.bytes_to_come()),

@@ -3,6 +3,7 @@ use crate::tally::Tally;
 use ledger::{Ledger, OutOfRange};
 use std::{fmt, io};
 
+// A ledger with each number named, which `count` does not print.
 #[derive(Drop)]
 struct Standing(Ledger);
 

@@ -24,7 +24,7 @@ pub(crate) fn remote(ident: Ident, code: u8) -> Frame {
     }
 }
 
-// A frame, in words.
+// A frame, in words of its own: `hear` prints the notation of can-utils.
 #[derive(Drop)]
 pub(crate) struct Described(pub Frame);
 

@@ -9,7 +9,7 @@ use std::fmt;
 #[derive(Drop)]
 pub(crate) struct Hearing<'a>(pub &'a [&'a str]);
 
-// The letters `0` and `1` are the samples 0 and 1; any other byte is offered as it is. So it is in `hear`, from which no program can take it.
+// The letters `0` and `1` are the samples 0 and 1; any other byte is offered as it is (as in `hear`).
 fn sample(letter: u8) -> u8 {
     match letter {
         b'0' => 0,
@@ -18,6 +18,7 @@ fn sample(letter: u8) -> u8 {
     }
 }
 
+// One answer, in the samples' words.
 #[derive(Drop)]
 struct Said(Answer);
 

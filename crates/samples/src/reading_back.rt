@@ -7,6 +7,7 @@ use crate::tally::Tally;
 use std::io;
 use wire::Frame;
 
+// Unlike `put`'s, it tells what is no sample.
 fn letter(sample: u8) -> u8 {
     match sample {
         0 => b'0',

@@ -19,7 +19,8 @@ pub fn crc_bit(register: u32, b: u32) -> u32
     }
 }
 
-// The register after the `width` low bits of `value`, highest first.
+// The register after the `width` low bits of `value`, highest first. Bit by bit: an iterator of bits would need laws of its own, for two
+// loops of one line, this and the writer's.
 #[tactic(auto, using(crate::proofs::Loops::crc_loop))]
 pub fn crc_bits(register: u32, width: u32, value: u64) -> u32
     ensures { result ≡ crc_from crc_width crc_generator register (bits width value) }

@@ -8,7 +8,7 @@ use crate::idents::Ident;
 pub const ROOM: usize = 8;
 
 // `count` bytes are given; what stands behind them in `bytes` is no part of the frame. The count stands beside them, as in document 01,
-// since one that the frame does not carry is refused (3).
+// since one that the frame does not carry is refused with 3 (`miscounted`).
 #[derive(Clone, Copy)]
 pub struct Frame {
     pub ident: Ident,
@@ -18,8 +18,8 @@ pub struct Frame {
     pub bytes: [u8; ROOM],
 }
 
-// A frame as it came off the wire: unused bytes are 0. `noted` is document 01's number: 0 for a base frame, and for an extended one a
-// sum, 4 if SRR came dominant, 1 if r0 came recessive.
+// A frame as it came off the wire: unused bytes are 0. `noted` is document 01's number (`Legal`): 0 for a base frame, and for an
+// extended one a sum, 4 if SRR came dominant, 1 if r0 came recessive.
 #[derive(Clone, Copy)]
 pub struct Received {
     pub frame: Frame,

@@ -18,6 +18,7 @@ fn copy_front(out: &mut [u8], image: &[u8])
 
 // The wire image of `frame` into `capture` from `start` on, and how many bits it has; or a refusal, and no byte changes.
 // `old` marks old controllers.
+// Four arguments, as `claims::read_back` has: each is the caller's own, so no struct holds them together.
 pub fn write(frame: Frame, old: bool, capture: &mut [u8], start: usize) -> Result<usize, Refusal>
     ensures { outcome (as_written result) capture.new ≡ answer frame old capture.old start }
 {

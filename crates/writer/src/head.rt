@@ -5,17 +5,11 @@ ghost use Rattle.wire.specs.Fields.{raw};
 ghost use Rattle.refusals.specs.Refusals.{frame_refusal};
 ghost use Rattle.writer.specs.Pages.{head_fields};
 
+use crate::field::Field;
 use wire::{Frame, Ident};
 
 // How many lower parts an extended identifier can have: 2 to the 18th.
 const LOWER: u64 = 262144;
-
-// So many low bits of a number.
-#[derive(Clone, Copy)]
-pub(crate) struct Field {
-    pub width: u32,
-    pub value: u64,
-}
 
 // Behind a base identifier, and behind the lower bits of an extended one, stand RTR, two bits 0 and the code; SRR and IDE, both 1, stand
 // between the upper and the lower bits.

@@ -16,10 +16,9 @@ pub(crate) fn draw(f: Frame) -> Page
     requires { frame_refusal f false ≡ 0 }
     ensures { result ≡ marks new_page (wire_bits f) }
 {
-    let head = head(f);
     let count = carried(f.remote, f.code as u32);
     let mut sheet = Sheet::new();
-    sheet.field(head.width, head.value);
+    sheet.field(head(f));
     sheet.bytes(&f.bytes[..count]);
     sheet.close()
 }

@@ -3,6 +3,7 @@
 
 mod capture;
 mod coding;
+mod field;
 mod head;
 mod image;
 mod page;

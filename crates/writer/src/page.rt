@@ -5,6 +5,7 @@ ghost use Rattle.wire.specs.Stuffing.{all};
 ghost use Rattle.writer.specs.Pages.{new_page, marks, coding_of, coded_bit, drawn};
 
 use crate::coding::Coding;
+use crate::field::Field;
 use wire::Run;
 use wire::bits::bit_at;
 
@@ -21,6 +22,7 @@ pub(crate) struct Pen {
 // The samples put down so far, with zeros behind them, and the pen.
 #[derive(Drop)]
 pub(crate) struct Page {
+    // An array, and no `ArrayVec` of `pen.at` samples: the laws of pages (`PagesLaws`) speak of the whole of it.
     pub out: [u8; LONGEST],
     pub pen: Pen,
 }
@@ -62,12 +64,13 @@ impl Page {
         self.sample(b);
     }
 
-    // The `width` low bits of `value`, highest first.
-    pub(crate) fn field(&mut self, how: Coding, width: u32, value: u64)
-        ensures { self.new ≡ drawn self.old (all (coding_of how) (bits width value)) }
+    // The bits of a field, highest first.
+    // Bit by bit, as `wire::crc::crc_bits` goes: an iterator of bits would need laws of its own, for two loops of one line.
+    pub(crate) fn field(&mut self, how: Coding, field: Field)
+        ensures { self.new ≡ drawn self.old (all (coding_of how) (bits field.width field.value)) }
     {
-        for left in (0..width).rev() {
-            self.bit(how, bit_at(value, left) as u8);
+        for left in (0..field.width).rev() {
+            self.bit(how, bit_at(field.value, left) as u8);
         }
     }
 }

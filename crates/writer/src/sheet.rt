@@ -5,8 +5,18 @@ ghost use Rattle.wire.specs.Fields.{raw, data_fields};
 ghost use Rattle.writer.specs.Pages.{new_sheet, laid, closed};
 
 use crate::coding::Coding;
+use crate::field::Field;
 use crate::page::Page;
 use wire::crc::crc_bits;
+
+// The delimiter of the CRC, the last bit before which a stuff bit may be due.
+const CRC_DELIMITER: Field = Field { width: 1, value: 1 };
+
+// Slot, acknowledge delimiter and end of frame.
+const ACK_AND_END: Field = Field {
+    width: 9,
+    value: 511,
+};
 
 #[derive(Drop)]
 pub(crate) struct Sheet {
@@ -27,11 +37,11 @@ impl Sheet {
 
     // A field that the CRC covers.
     #[tactic(auto, unfolding(crate::specs::Pages::laid))]
-    pub(crate) fn field(&mut self, width: u32, value: u64)
-        ensures { self.new ≡ laid self.old (bits width value) }
+    pub(crate) fn field(&mut self, field: Field)
+        ensures { self.new ≡ laid self.old (bits field.width field.value) }
     {
-        self.crc = crc_bits(self.crc, width, value);
-        self.page.field(Coding::Dynamic, width, value);
+        self.crc = crc_bits(self.crc, field.width, field.value);
+        self.page.field(Coding::Dynamic, field);
     }
 
     // Data bytes, each highest bit first.
@@ -39,18 +49,25 @@ impl Sheet {
         ensures { self.new ≡ laid self.old (raw (data_fields bytes.now)) }
     {
         for byte in bytes {
-            self.field(8, u64::from(*byte));
+            self.field(Field {
+                width: 8,
+                value: u64::from(*byte),
+            });
         }
     }
 
-    // The CRC; its delimiter, the last bit before which a stuff bit may be due; slot, acknowledge delimiter and end of frame.
+    // The CRC, its delimiter, and what ends the frame.
     #[tactic(auto, using(crate::proofs::Drawing::close_drawn))]
     pub(crate) fn close(mut self) -> Page
         ensures { result ≡ closed self }
     {
-        self.page.field(Coding::Dynamic, 15, u64::from(self.crc));
-        self.page.field(Coding::Dynamic, 1, 1);
-        self.page.field(Coding::Plain, 9, 511);
+        let crc = Field {
+            width: 15,
+            value: u64::from(self.crc),
+        };
+        self.page.field(Coding::Dynamic, crc);
+        self.page.field(Coding::Dynamic, CRC_DELIMITER);
+        self.page.field(Coding::Plain, ACK_AND_END);
         self.page
     }
 }

@@ -7,4 +7,5 @@ use Rattle.writer.proofs.page.Page.field.Given as goal
 
 abbrev pub invariant-loop-left : goal.invariant-loop-left
 invariant-loop-left l =
-    drawn l.self (all (coding_of l.how) (bits l.left l.value)) ≡ drawn l.fn.self (all (coding_of l.how) (bits l.fn.width l.value))
+    drawn l.self (all (coding_of l.how) (bits l.left l.field.value))
+    ≡ drawn l.fn.self (all (coding_of l.how) (bits l.fn.field.width l.fn.field.value))
