@@ -10,49 +10,52 @@ use std::io::{Read, Write};
 // So many bytes are read at a time, at most.
 const PIECE: usize = 4096;
 
-// One event, by its number, as document 01 has them and `replay` takes them.
-fn take_event(out: &mut impl Write, l: Ledger, number: u8) -> io::Result<Ledger> {
-    let next = l.replay(&[number]).unwrap_or_else(|refused| refused.0);
-    writeln!(out, "{next}")?;
-    Ok(next)
+// Where the ledger is printed, and the ledger.
+#[derive(Drop)]
+struct Desk<W: Write> {
+    out: W,
+    ledger: Ledger,
 }
 
-// One character.
-fn take_one(out: &mut impl Write, l: Ledger, c: u8) -> io::Result<Ledger> {
-    match c {
-        b' ' | b'\t' | b'\r' | b'\n' => Ok(l),
-        b'0'..=b'9' => take_event(out, l, c - b'0'),
-        b'a' => take_event(out, l, 10),
-        _ => {
-            writeln!(out, "not an event")?;
-            Ok(l)
+impl<W: Write + Drop> Desk<W> {
+    // One event, by its number, as document 01 has them and `replay` takes them.
+    fn event(&mut self, number: u8) -> io::Result<()> {
+        let answer = self.ledger.replay(&[number]);
+        self.ledger = answer.unwrap_or_else(|refused| refused.0);
+        writeln!(self.out, "{}", self.ledger)
+    }
+
+    // One character.
+    fn take(&mut self, c: u8) -> io::Result<()> {
+        match c {
+            b' ' | b'\t' | b'\r' | b'\n' => Ok(()),
+            b'0'..=b'9' => self.event(c - b'0'),
+            b'a' => self.event(10),
+            _ => writeln!(self.out, "not an event"),
         }
     }
 }
 
-// Each character of a piece.
-fn take_piece(out: &mut impl Write, mut l: Ledger, piece: &[u8]) -> io::Result<Ledger> {
-    for c in piece {
-        l = take_one(out, l, *c)?;
-    }
-    Ok(l)
-}
-
 // The input to its end. Nothing says that it ends, so the pieces are counted, up to a number of them that no run uses up. Each program
 // has such a loop over a state of its own: one for all would need a contract over any reader and any state.
-fn take_all(input: &mut impl Read, out: &mut impl Write) -> io::Result<()> {
+fn take_all(input: &mut impl Read, out: impl Write + Drop) -> io::Result<()> {
     let mut piece = [0u8; PIECE];
-    let mut l = Ledger::new();
+    let mut desk = Desk {
+        out,
+        ledger: Ledger::new(),
+    };
     for _ in 0..u64::MAX {
         let n = input.read(&mut piece)?;
         if n == 0 {
             break;
         }
-        l = take_piece(out, l, &piece[..n])?;
+        for c in &piece[..n] {
+            desk.take(*c)?;
+        }
     }
     Ok(())
 }
 
 fn main(rt: HostRuntime) -> io::Result<()> {
-    take_all(&mut rt.stdin(), &mut rt.stdout())
+    take_all(&mut rt.stdin(), rt.stdout())
 }

@@ -26,7 +26,7 @@ impl TransmitCount {
         255 < self.0
     }
 
-    // T in its range.
+    // T in its range: asked at run time, since any record can be handed in, and 7 is the answer to one out of its ranges.
     pub fn fits(self) -> bool
         ensures { result ≡ leb self.0 most_transmit }
     {
@@ -63,7 +63,7 @@ impl TransmitCount {
 
 // Not one type with the above by a parameter: each count has its own range and moves by rules of its own.
 impl ReceiveCount {
-    // R in its range.
+    // R in its range. (As for T.)
     pub fn fits(self) -> bool
         ensures { result ≡ leb self.0 receive_held }
     {

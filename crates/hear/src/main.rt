@@ -16,7 +16,7 @@ const PIECE: usize = 65536;
 // No line is longer.
 const LONGEST: usize = 128;
 
-// Write the line, whole.
+// Write the line, whole: put together on the stack, as `samples` does with what it compares.
 fn tell(out: &mut impl Write, line: Line) -> io::Result<()> {
     let mut text = Cursor::new([0u8; LONGEST]);
     writeln!(text, "{line}")?;

@@ -2,6 +2,7 @@
 ghost use Rattle.std.specs.Prelude.{◌≡◌};
 ghost use Rattle.hear.specs.Samples.{is_skipped, sample_of, offered_of};
 
+// White space, as `count` has it too: a line in each is shorter than a library.
 fn is_skipped(b: u8) -> bool
     ensures { result ≡ is_skipped b }
 {

@@ -59,7 +59,7 @@ impl Ledger {
         }
     }
 
-    // Whether what the record holds lies in its range.
+    // Whether what the record holds lies in its range. Asked at run time, since any record can be handed in.
     #[tactic(auto, unfolding(crate::specs::Answer::in_range))]
     fn in_range(self) -> bool
         ensures { result ≡ in_range self }

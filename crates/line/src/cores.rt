@@ -1,4 +1,4 @@
-// The core, one sample at a time: decide, then act.
+// The core, one sample at a time: decide, then act. A sample is a number, as in `wire::bits`.
 ghost use Rattle.std.specs.Prelude.{◌≡◌};
 ghost use Rattle.line.specs.Core.{at, new_core, move_at, told, nothing, take_move, moved, stepped};
 ghost use Rattle.line.specs.Ranges.{core_fits};

@@ -17,6 +17,7 @@ pub struct InFrame {
     pub slot: u32,
 }
 
+// (As in `Core::fits`.)
 fn run_fits(run: Run) -> bool
     ensures { result ≡ run_fits run }
 {

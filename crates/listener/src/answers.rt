@@ -12,7 +12,7 @@ pub enum Answer {
     // a frame is handed out
     Handed(Received),
     Trouble(Fault),
-    // by its number: `Heard::refused` takes any
+    // by its number: `Heard::refused` takes any; and no `Err`, since over a capture the hearing goes on behind it
     Refused(u8),
 }
 

@@ -1,4 +1,5 @@
-// What a sample asks for, place by place: a function for each row of document 01's table, though some rows are alike.
+// What a sample asks for, place by place: a public function for each row of document 01's table, though some rows are alike.
+// A sample is a number, as in `wire::bits`.
 ghost use Rattle.std.specs.Prelude.{◌≡◌};
 ghost use Rattle.moves.specs.Moves.{quiet_after, when_waiting, when_ready, when_delimiter, when_fdf, when_bit, when_stuffed, when_ack_delimiter, when_end_of_frame, when_intermission};
 

@@ -4,7 +4,7 @@ use std::io;
 use std::io::Write;
 use wire::Frame;
 
-// `0` for a dominant sample and `1` for any other.
+// `0` for a dominant sample and `1` for any other, of which an image has none. (`samples` tells what is no sample.)
 fn letter(sample: u8) -> u8 {
     if sample == 0 { b'0' } else { b'1' }
 }

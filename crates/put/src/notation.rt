@@ -3,7 +3,7 @@
 use wire::frames::ROOM;
 use wire::{BaseId, ExtId, Frame, Ident};
 
-// The number that hex digits stand for, capital or small.
+// The number that hex digits stand for, capital or small; not by `from_str_radix`, which takes a sign.
 fn number(digits: &str) -> Option<u32> {
     digits.chars().try_fold(0u32, |n, c| n.checked_mul(16)?.checked_add(c.to_digit(16)?))
 }

@@ -1,4 +1,5 @@
-// A field's value, bit by bit. A bit is the number 0 or 1, as a sample of a capture is: document 01's answer to any other number is 6.
+// A field's value, bit by bit. A bit is a number, as a sample of a capture is: public calls take any, and 6 is document 01's answer to one that is neither 0
+// nor 1.
 ghost use Rattle.std.specs.Prelude.{◌≡◌};
 ghost use Rattle.wire.specs.Bits.{bit_at};
 

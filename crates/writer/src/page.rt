@@ -1,4 +1,4 @@
-// A page: an image as it is drawn, sample behind sample, with the stuff bits that are due between them.
+// A page: an image as it is drawn, sample behind sample, bytes as in a capture, with the stuff bits that are due between them.
 ghost use Rattle.std.specs.Prelude.{◌≡◌, [], ◌∷◌};
 ghost use Rattle.wire.specs.Bits.{bits};
 ghost use Rattle.wire.specs.Stuffing.{all};
