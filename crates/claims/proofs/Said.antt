@@ -1,5 +1,6 @@
 -- An answer is told by its words: no two answers are said alike. By the answer that words stand for.
-use Rattle.std.proofs.Common.{◌≡◌, refl, sym, ap, ◌∙◌}
+use Rattle.std.proofs.Common.{◌≡◌, refl}
+use Rattle.proving.specs.Pinning.{found_again}
 use Rattle.moves.specs.declared.places.Fault.TheVariants.{StuffError, FormError, CrcError, Overload, NewerFormat}
 use Rattle.listener.specs.declared.answers.Answer.{Answer}
 use Rattle.listener.specs.declared.answers.Answer.TheVariants.{Nothing, Handed, Trouble, Refused}
@@ -26,4 +27,4 @@ worded (Trouble NewerFormat) = refl
 worded (Refused n) = refl
 
 pub said-injective : (a b : Answer) → answer_said a ≡ answer_said b → a ≡ b
-said-injective a b e = sym (worded a) ∙ ap answer_of e ∙ worded b
+said-injective a b = found_again answer_said answer_of worded

@@ -1,8 +1,9 @@
 -- Laws of the ranges: the test as facts on numbers, and that no event leads out of them.
 use Rattle.std.specs.Prelude.{ℕ, ◌+◌, ◌≤◌, ◌<◌, ◌≡◌, refl, Bool, true, false, not, ◌&&◌, ◌||◌, cond, leb, eqb, Result, Ok, Err}
-use Rattle.std.proofs.Common.{arith, ⊎_elim, true≢false, lt-ltb, le-ltb, le-leb, eq-eqb, leb-true, eqb-true, sym, ap, ◌∙◌}
+use Rattle.std.proofs.Common.{arith, ⊎_elim, true≢false, lt-ltb, le-ltb, le-leb, eq-eqb, leb-true, eqb-true}
 use Rattle.std.proofs.lemmas.Bool.{false≢true}
 use Rattle.proving.specs.Cases.{lt_or_le, either}
+use Rattle.proving.specs.Pinning.{found_again}
 use Rattle.counts.specs.Numbers.{off_above, receive_held, most_transmit}
 use Rattle.counts.specs.Counts.{off}
 use Rattle.ledger.specs.declared.ledger.Ledger.{Ledger}
@@ -142,4 +143,4 @@ answered (Ok l) = refl
 answered (Err x) = refl
 
 pub told-injective : {q r : Result Ledger OutOfRange} → told q ≡ told r → q ≡ r
-told-injective {q} {r} h = sym (answered q) ∙ ap answer_of h ∙ answered r
+told-injective = found_again told answer_of answered

@@ -51,16 +51,12 @@ accepted l b = answer_to (stepped l.core b).event (stepped l.core b).core l.byte
 abbrev pub refused : ℕ → Listener → Heard
 refused n l = record { answer = Refused n; next = l }
 
--- any sample, whatever the record
-abbrev pub offered : Listener → ℕ → Heard
-offered l b = cond (ltb b 2) (accepted l b) (refused 6 l)
-
 abbrev pub fits : Listener → Bool
 fits l = core_fits l.core
 
 -- 7 comes before 6
 abbrev pub heard : Listener → ℕ → Heard
-heard l b = cond (fits l) (offered l b) (refused 7 l)
+heard l b = cond (fits l) (cond (ltb b 2) (accepted l b) (refused 6 l)) (refused 7 l)
 
 -- OVER A CAPTURE
 

@@ -1,6 +1,6 @@
 // The listener's record, and its calls.
 ghost use Rattle.std.specs.Prelude.{◌≡◌, true, drop};
-ghost use Rattle.listener.specs.Listener.{new_listener, received_of, answer_to, accepted, offered, fits, heard, seek, found};
+ghost use Rattle.listener.specs.Listener.{new_listener, received_of, answer_to, accepted, fits, heard, seek, found};
 
 use crate::answers::{Answer, Found, Heard};
 use crate::bytes::keep;
@@ -74,17 +74,6 @@ impl Listener {
         next.answer(stepped.event)
     }
 
-    // One sample, whatever the record.
-    fn offered(self, sample: u8) -> Heard
-        ensures { result ≡ offered self sample }
-    {
-        if sample < 2 {
-            self.accepted(sample as u32)
-        } else {
-            Heard::refused(Refusal::Sample.number(), self)
-        }
-    }
-
     // One sample: 7 comes before 6.
     pub fn hear(self, sample: u8) -> Heard
         ensures { result ≡ heard self sample }
@@ -92,7 +81,11 @@ impl Listener {
         if !self.fits() {
             return Heard::refused(Refusal::Record.number(), self);
         }
-        self.offered(sample)
+        if sample < 2 {
+            self.accepted(sample as u32)
+        } else {
+            Heard::refused(Refusal::Sample.number(), self)
+        }
     }
 
     // The first answer that is not "nothing", from the sample at a position on, where the record is within its ranges. Every step

@@ -5,9 +5,9 @@ use Rattle.std.proofs.Common.{ℕ, ◌≡◌, refl, sym, ap, ◌∙◌, List}
 use contract.Lifetimes.{Lfts}
 use denote.Triple.Clauses.{AtExit}
 use borrow.Fn.Kinds.{Dens, res_t, ended_of}
+use Rattle.proving.specs.Pinning.{found_again}
 use Rattle.refusals.specs.declared.refusal.Refusal.{Refusal}
-use Rattle.refusals.specs.Refusal.{told}
-use Rattle.refusals.specs.RefusalLaws.{told-injective}
+use Rattle.refusals.specs.RefusalLaws.{answer_of, named}
 use Rattle.writer.specs.Writer.{Written, as_written, Outcome, outcome}
 use Rattle.writer.proofs.capture.write.Kinds as write-kinds
 use Rattle.writer.proofs.capture.write.Reads as write-reads
@@ -17,27 +17,23 @@ pub record Public : Type 0 where
   pub write : (κs : Lfts 1) (a : Dens κs write-kinds.ps) (x y : (res_t write-kinds.r κs).Denot) (s t : AtExit (ended_of 1 write-kinds.ps write-kinds.r) κs)
       → write-reads.Learnt κs a x s → write-reads.Learnt κs a y t → (x ≡ y) × (s.1.1.0.now ≡ t.1.1.0.now)
 
--- whether an answer refuses
-abbrev only : Result ℕ Refusal → Result ⊤ Refusal
-only (Ok n) = Ok tt
-only (Err x) = Err x
+-- the answer that a number and bits stand for
+abbrev answer_by : Result ⊤ Refusal → ℕ → Result ℕ Refusal
+answer_by (Ok u) n = Ok n
+answer_by (Err x) n = Err x
 
-only-told : (x : Result ℕ Refusal) → told (only x) ≡ (as_written x).refusal
-only-told (Ok n) = refl
-only-told (Err x) = refl
+abbrev answer_with : Written → Result ℕ Refusal
+answer_with w = answer_by (answer_of w.refusal) w.bits
 
-as_written-injective : (x y : Result ℕ Refusal) → as_written x ≡ as_written y → x ≡ y
-as_written-injective x y e = go x y e (told-injective (only-told x ∙ ap (λ (w : Written). w.refusal) e ∙ sym (only-told y)))
-  where
-    go : (x y : Result ℕ Refusal) → as_written x ≡ as_written y → only x ≡ only y → x ≡ y
-    go (Ok n) (Ok m) e o = ap Ok (ap (λ (w : Written). w.bits) e)
-    go (Ok n) (Err y) e o = absurd (cc)
-    go (Err x) (Ok m) e o = absurd (cc)
-    go (Err x) (Err y) e o = cc
+answered : (x : Result ℕ Refusal) → answer_with (as_written x) ≡ x
+answered (Ok n) = refl
+answered (Err x) = ap (λ (r : Result ⊤ Refusal). answer_by r 0) (named x)
+
+as_written-injective : {x y : Result ℕ Refusal} → as_written x ≡ as_written y → x ≡ y
+as_written-injective = found_again as_written answer_with answered
 
 one : {o : Outcome} {x y : Result ℕ Refusal} {c d : List ℕ} → outcome (as_written x) c ≡ o → outcome (as_written y) d ≡ o → (x ≡ y) × (c ≡ d)
-one {x} {y} p q =
-    (as_written-injective x y (ap (λ (o : Outcome). o.written) (p ∙ sym q)), ap (λ (o : Outcome). o.capture) (p ∙ sym q))
+one p q = (as_written-injective (ap (λ (o : Outcome). o.written) (p ∙ sym q)), ap (λ (o : Outcome). o.capture) (p ∙ sym q))
 
 pub pinned : Public
 pinned = record { write = λ κs a x y s t. one }
