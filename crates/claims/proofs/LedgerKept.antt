@@ -1,8 +1,9 @@
 -- The ledger's promises are kept: each history is split at its recoveries, and the ledger over either kind of split is known.
-use Rattle.std.proofs.Common.{ℕ, ◌≤◌, ◌<◌, arith, ◌≡◌, refl, ◌↔◌, ⊎_elim, Bool, true, false, cond, List, [], ◌∷◌, ◌++◌, length, replicate, lt-ltb, le-ltb, ◌∙◌, Result, Ok}
+use Rattle.std.proofs.Common.{ℕ, ◌≤◌, ◌<◌, arith, ◌≡◌, refl, ◌↔◌, ⊎_elim, Bool, true, false, cond, List, [], ◌∷◌, ◌++◌, length, replicate, lt-ltb, le-ltb}
 use Rattle.std.proofs.Math.Seq.{take-length}
 use Rattle.counts.specs.Numbers.{off_above}
 use Rattle.counts.specs.Counts.{is_passive}
+use Rattle.ledger.specs.declared.state.State.{State}
 use Rattle.ledger.specs.declared.state.State.TheVariants.{Active, Passive, BusOff}
 use Rattle.ledger.specs.declared.event.Event.{Event}
 use Rattle.ledger.specs.declared.event.Event.TheVariants.{ErrorFlagSent, ElevenRecessive, Ask}
@@ -10,9 +11,8 @@ use Rattle.ledger.specs.Numbers.{recovery_groups}
 use Rattle.ledger.specs.Rules.{new, change, waiting, next, state_of, ledger}
 use Rattle.ledger.specs.RulesLaws.{next_on, next-off}
 use Rattle.ledger.specs.declared.ledger.Ledger.{Ledger}
-use Rattle.ledger.specs.declared.ledger.OutOfRange.{OutOfRange}
-use Rattle.ledger.specs.Answer.{in_range, Ledgered, accepted, told, after}
-use Rattle.ledger.specs.AnswerLaws.{new-in_range, told-injective}
+use Rattle.ledger.specs.Answer.{in_range, Ledgered, accepted, after}
+use Rattle.ledger.specs.AnswerLaws.{new-in_range}
 use Rattle.ledger.specs.History.{run, after_all}
 use Rattle.ledger.specs.HistoryLaws.{run-append, run-in_range}
 use Rattle.claims.specs.LedgerHistory.{T_of, R_of, groups, asked, since_asked, NotPassed, Passed}
@@ -27,9 +27,6 @@ use Rattle.claims.proofs.LedgerSplit.{split, still_passed, recovered}
 answered : (h : List Event) → after_all h new ≡ accepted (run h new)
 unfolding after_all
 answered h = rw new-in_range
-
-pub never_refused : (h : List Event) (l : Ledger) (r : Result Ledger OutOfRange) → l ≡ new → told r ≡ after_all h l → r ≡ Ok (run h new)
-never_refused h l r is e = told-injective (rw is at e ∙ answered h)
 
 chained : (h : List Event) (e : Event) → after e (run h new) ≡ accepted (run (h ++ (e ∷ [])) new)
 unfolding after run
@@ -117,6 +114,11 @@ promise h = rw (answered h) (record {
   bus_off = off_exactly h;
   state = refl;
 })
+
+-- how a station stands that was new, from the number and the ledger that the calls for a history answer
+pub stands : (h : List Event) (a : Ledgered) (l : Ledger) (s : State) (n : ℕ × Ledger) → n ≡ (a.refusal, a.ledger) → l ≡ new → a ≡ after_all h l
+    → s ≡ state_of n.1 → LedgerPromise h (record { refusal = n.0; ledger = n.1; state = s })
+stands h a l s n is at e t = rw (t, is, e, at) (promise h)
 
 pub ledger_kept : LedgerPromises
 ledger_kept = record {

@@ -8,7 +8,6 @@ pub mod Sixteen
 pub mod OldControllers
 pub mod ReadBack
 pub mod LedgerHistory
-pub mod Standing
 pub mod LedgerSamples
 pub mod Samples
 pub mod Promises

@@ -19,7 +19,7 @@ use Rattle.ledger.specs.declared.state.State.TheVariants.{BusOff}
 use Rattle.ledger.specs.Rules.{ledger, new, state_of}
 use Rattle.ledger.specs.Answer.{in_range, accepted, after}
 use Rattle.ledger.specs.History.{after_all}
-use Rattle.claims.specs.Standing.{Standing}
+use Rattle.claims.specs.declared.ledger_history.Standing.{Standing}
 use Rattle.claims.specs.Numbers.{settling, upper_bits}
 use Rattle.claims.specs.OldControllers.{Barred, upper_seven}
 use Rattle.claims.specs.Answers.{handed, refused, said}

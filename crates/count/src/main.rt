@@ -3,12 +3,15 @@
 // is answered `not an event`.
 #![tactic(auto)]
 
-use ledger::Ledger;
+use ledger::{Ledger, State};
 use std::io;
-use std::io::{Read, Write};
+use std::io::{Cursor, Read, Write};
 
 // So many bytes are read at a time, at most.
 const PIECE: usize = 4096;
+
+// No state is longer, with the end of its line.
+const LONGEST: usize = 8;
 
 // Where the ledger is printed, and the ledger.
 #[derive(Drop)]
@@ -18,11 +21,22 @@ struct Desk<W: Write> {
 }
 
 impl<W: Write + Drop> Desk<W> {
+    // The state, whole with the end of its line.
+    fn tell(&mut self, state: State) -> io::Result<()> {
+        let mut text = Cursor::new([0u8; LONGEST]);
+        writeln!(text, "{state}")?;
+        let end = text.position() as usize;
+        self.out.write_all(text.get_ref().get(..end).unwrap_or(&[]))
+    }
+
     // One event, by its number, as document 01 has them and `replay` takes them.
     fn event(&mut self, number: u8) -> io::Result<()> {
         let answer = self.ledger.replay(&[number]);
         self.ledger = answer.unwrap_or_else(|refused| refused.0);
-        writeln!(self.out, "{}", self.ledger)
+        let t = self.ledger.transmit.0;
+        let r = self.ledger.receive.0;
+        write!(self.out, "{t} {r} {} ", self.ledger.groups)?;
+        self.tell(self.ledger.state())
     }
 
     // One character.

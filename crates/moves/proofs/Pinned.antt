@@ -1,4 +1,4 @@
--- Each public contract pins its result down, since each is an equation.
+-- Each public call's contract pins its result down, since it is an equation. (How a fault prints is std's to say: docs/PROMISES.md.)
 use Rattle.proving.specs.Pinning.{Pinned, one}
 use Rattle.moves.proofs.moves as moves
 use Rattle.moves.proofs.places.Place as place

@@ -17,7 +17,10 @@ fn write_image(out: &mut impl Write, frame: Frame, old: bool) -> io::Result<()> 
     let mut capture = [0u8; ROOM];
     match writer::write(frame, old, &mut capture, 0) {
         Ok(bits) => {
-            out.write_all(capture.map(letter).get(..bits).unwrap_or(&[]))?;
+            for sample in capture.iter_mut() {
+                *sample = letter(*sample);
+            }
+            out.write_all(capture.get(..bits).unwrap_or(&[]))?;
             out.write_all(b"\n")
         }
         Err(refusal) => writeln!(out, "refused {refusal}"),

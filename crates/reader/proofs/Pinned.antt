@@ -1,4 +1,4 @@
--- Each public contract of the reader pins its result down.
+-- Each public contract of the reader pins its result down. (`Registers::default` is derived, and is what `new` gives.)
 use Rattle.proving.specs.Pinning.{Pinned, one}
 use Rattle.reader.proofs.fields.Field as field
 use Rattle.reader.proofs.registers.Registers as registers

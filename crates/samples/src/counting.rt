@@ -3,6 +3,11 @@ use crate::tally::Tally;
 use ledger::{Ledger, OutOfRange};
 use std::{fmt, io};
 
+// Event numbers, in document 01's order from 0.
+const ERROR_FLAG_SENT: u8 = 4;
+
+const ELEVEN_RECESSIVE: u8 = 9;
+
 // A ledger with each number named, which `count` does not print.
 #[derive(Drop)]
 struct Standing(Ledger);
@@ -25,12 +30,17 @@ fn handed_back(answer: Result<Ledger, OutOfRange>) -> Ledger {
 
 // It goes off after 32 error flags sent: from new, T is 256.
 fn to_off(l: Ledger) -> Ledger {
-    (0..32).fold(l, |l, _| handed_back(l.error_flag_sent()))
+    handed_back(l.replay(&[ERROR_FLAG_SENT; 32]))
 }
 
-// It sees so many groups of eleven recessive bits.
-fn see(l: Ledger, groups: u8) -> Ledger {
-    (0..groups).fold(l, |l, _| handed_back(l.eleven_recessive()))
+// It sees so many groups of eleven recessive bits, 128 at most.
+fn see(l: Ledger, groups: usize) -> Ledger {
+    let history = [ELEVEN_RECESSIVE; 128];
+    handed_back(l.replay(history.get(..groups).unwrap_or(&[])))
+}
+
+fn see_one(l: Ledger) -> Ledger {
+    handed_back(l.eleven_recessive())
 }
 
 fn ask(l: Ledger) -> Ledger {
@@ -67,12 +77,12 @@ pub(crate) fn asking(tally: &mut Tally) -> io::Result<()> {
     )?;
     tally.sample(
         "a station that is off sees 127 groups, is asked to recover, and sees one",
-        Standing(see(ask(see(off, 127)), 1)),
+        Standing(see_one(ask(see(off, 127)))),
         "off, T 256, R 0, groups 1",
     )?;
     tally.sample(
         "a station that is off is asked, sees 127 groups, is asked again, and sees one",
-        Standing(see(ask(see(ask(off), 127)), 1)),
+        Standing(see_one(ask(see(ask(off), 127)))),
         "active, T 0, R 0, groups 0",
     )?;
     tally.sample(

@@ -1,11 +1,11 @@
 -- Laws shaped like what the branches of `write` leave to show: what a call of the writer answers.
-use Rattle.std.proofs.Common.{ℕ, ◌+◌, ◌-◌, ◌≤◌, ◌≡◌, refl, sym, ap, ◌∙◌, Bool, cond, List, ◌++◌, append_assoc, append-nil, zero-add, arith, eqb, length, take, drop, length-drop, drop_of_length-le, take_all, take_at, drop-drop, eq-eqb, ne_eqb}
+use Rattle.std.proofs.Common.{ℕ, ◌+◌, ◌-◌, ◌≤◌, ◌≡◌, refl, sym, ap, ◌∙◌, Bool, false, cond, List, ◌++◌, append_assoc, append-nil, zero-add, arith, eqb, length, take, drop, length-drop, drop_of_length-le, take_all, take_at, drop-drop, eq-eqb, ne_eqb}
 use Rattle.std.proofs.lemmas.List.Edits.{sets, sets-eq}
 use Rattle.wire.specs.declared.frames.Frame.{Frame}
 use Rattle.wire.specs.Numbers.{longest_extended}
 use Rattle.writer.specs.declared.page.Page.{Page}
 use Rattle.refusals.specs.Refusals.{frame_refusal, place_refusal, refusal}
-use Rattle.refusals.specs.RefusalsLaws.{start_fits, bits_fit}
+use Rattle.refusals.specs.RefusalsLaws.{taken_unmarked, start_fits, bits_fit}
 use Rattle.writer.specs.Writer.{wire_bits, outcome, refused, answer}
 use Rattle.writer.specs.WriterLaws.{refusal-first}
 use Rattle.writer.specs.Pages.{new_page, marks}
@@ -84,3 +84,9 @@ module _ (f : Frame) (old : Bool) (c : List ℕ) (start no : ℕ) (own : no ≡ 
           let room = bits_fit p.pen.at (length c) start misplaced told n in
           rw (refusal_is, eq-eqb misplaced 0 n)
           (rw (e, whole, middle c (wire_bits f) start inside (omega (arith, room, measured)), measured))
+
+-- a frame that is not refused is answered as it is where nothing is marked
+pub answer_unmarked : (f : Frame) (old : Bool) (c : List ℕ) (start : ℕ) → frame_refusal f old ≡ 0 → answer f false c start ≡ answer f old c start
+unfolding answer
+answer_unmarked f old c start z =
+    rw (refusal_by f old c start 0 (sym z), refusal_by f false c start 0 (sym (taken_unmarked f old z))) refl

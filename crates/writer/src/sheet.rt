@@ -58,8 +58,8 @@ impl Sheet {
 
     // The CRC, its delimiter, and what ends the frame.
     #[tactic(auto, using(crate::proofs::Drawing::close_drawn))]
-    pub(crate) fn close(mut self) -> Page
-        ensures { result ≡ closed self }
+    pub(crate) fn close(&mut self)
+        ensures { self.new.page ≡ closed self.old }
     {
         let crc = Field {
             width: 15,
@@ -68,6 +68,5 @@ impl Sheet {
         self.page.field(Coding::Dynamic, crc);
         self.page.field(Coding::Dynamic, CRC_DELIMITER);
         self.page.field(Coding::Plain, ACK_AND_END);
-        self.page
     }
 }

@@ -1,19 +1,14 @@
--- The station after a lent history stands as promised: the history is not refused, and `ledger_kept` speaks of the ledger that it hands back.
-use Rattle.std.proofs.Common.{◌≡◌, ap}
-use Rattle.ledger.specs.Rules.{new}
-use Rattle.ledger.specs.Answer.{Ledgered}
-use Rattle.ledger.specs.History.{run, events, after_all}
-use Rattle.claims.proofs.LedgerKept.{never_refused, ledger_kept}
+-- The station after a lent history stands as promised, whichever answer the code looks at: `stands`, of what its calls answer.
+use Rattle.ledger.specs.Answer.{accepted, refused}
+use Rattle.claims.proofs.LedgerKept.{stands}
 use Rattle.claims.proofs.ledger_history.after_history.Goals as goal
-
-pub unreachable-requires : goal.unreachable-requires
-unreachable-requires c =
-    let h = events c.args.numbers.now in
-    c.in_default.not-Ok (run h new) (never_refused h c.new.result c.replay.result c.new.ensures c.replay.ensures)
+use Rattle.claims.proofs.ledger_history.after_history.Goals.{in-Ok, in-Err}
 
 pub returns : goal.returns
 returns c =
-    let h = events c.args.numbers.now in
-    let handed : c.in-Ok.ledger ≡ (after_all h new).ledger =
-    rw c.new.ensures at (ap (λ (a : Ledgered). a.ledger) c.in-Ok.ensures) in
-    rw (c.state.ensures, handed) (ledger_kept.any_history h)
+    let n = c.match-replay.refusal in
+    elim c.match-replay.branch [
+      | in-Ok w ↦ stands _ (accepted w.in-Ok.ledger) _ _ n w.refusal-is c.new.ensures w.in-Ok.ensures c.state.ensures
+      | in-Err w ↦
+          stands _ (refused w.in-Err.refused.0) _ _ n (rw w.number.ensures at w.refusal-is) c.new.ensures w.in-Err.ensures c.state.ensures
+    ]
