@@ -29,7 +29,8 @@ impl<W: Write + Drop> Desk<W> {
         self.out.write_all(text.get_ref().get(..end).unwrap_or(&[]))
     }
 
-    // One event, by its number, as document 01 has them and `replay` takes them.
+    // One event, by its number, as document 01 has them and `replay` takes them. The ledger goes out part by part, and not as it prints itself:
+    // `writeln!` would write the end of the line apart from the state.
     fn event(&mut self, number: u8) -> io::Result<()> {
         let answer = self.ledger.replay(&[number]);
         self.ledger = answer.unwrap_or_else(|refused| refused.0);

@@ -1,5 +1,5 @@
 -- Each public contract pins its result down: an equation as it is, the calls by 01's words, in which no two answers are said alike, and the
--- event of a number by cases.
+-- event of a number by cases. (`Display` has std's contract, which fixes what is printed where printing succeeds: docs/PROMISES.md.)
 use Rattle.std.proofs.Common.{ℕ, ◌≡◌, ap, sym, ◌∙◌}
 use Rattle.std.specs.Prelude.{Result, Ok, Err}
 use borrow.Fn.Kinds.{Out}

@@ -1,4 +1,5 @@
--- Each public call's contract pins its result down, since it is an equation. (How a fault prints is std's to say: docs/PROMISES.md.)
+-- Each public contract pins its result down, since each is an equation. (`Display` has std's contract, which fixes what is printed where
+-- printing succeeds: docs/PROMISES.md.)
 use Rattle.proving.specs.Pinning.{Pinned, one}
 use Rattle.moves.proofs.moves as moves
 use Rattle.moves.proofs.places.Place as place

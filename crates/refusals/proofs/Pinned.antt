@@ -1,4 +1,5 @@
 -- Each public contract pins its result down: an equation as it is, and by the numbers, of which no two refusals have the same.
+-- (`Display` has std's contract, which fixes what is printed where printing succeeds: docs/PROMISES.md.)
 use Rattle.std.proofs.Common.{ℕ, ◌≡◌, sym, ◌∙◌}
 use Rattle.std.specs.Prelude.{Result, ⊤}
 use Rattle.proving.specs.Pinning.{Pinned, one}

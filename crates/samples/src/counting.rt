@@ -39,6 +39,7 @@ fn see(l: Ledger, groups: usize) -> Ledger {
     handed_back(l.replay(history.get(..groups).unwrap_or(&[])))
 }
 
+// One more, by the call for it.
 fn see_one(l: Ledger) -> Ledger {
     handed_back(l.eleven_recessive())
 }

@@ -53,7 +53,7 @@ module _ (f : Frame) (old : Bool) (c : List ℕ) (start no : ℕ) (own : no ≡ 
     fits_new : new_page.pen.at + length (wire_bits f) ≤ length new_page.out
     fits_new = omega (arith, front, room_for, sent-length f)
 
-    measured : p.pen.at ≡ length (wire_bits f)
+    pub measured : p.pen.at ≡ length (wire_bits f)
     measured = ap (λ (s : Page). s.pen.at) all ∙ marks-at new_page (wire_bits f) fits_new ∙ rw front (zero-add (length (wire_bits f)))
 
     pub fits_page : p.pen.at ≤ longest_extended
