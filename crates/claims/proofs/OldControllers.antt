@@ -9,9 +9,10 @@ use Rattle.wire.specs.Numbers.{highest_base, highest_old}
 use Rattle.wire.specs.Bits.{bits, number}
 use Rattle.wire.proofs.BitsLaws.{length_bits, bits-append, number-bits}
 use Rattle.refusals.specs.Refusals.{row, too_large, barred, refusal}
-use Rattle.refusals.specs.RefusalsLaws.{None, barred_unmarked}
+use Rattle.refusals.specs.RefusalsLaws.{None}
 use Rattle.writer.specs.Exactly.{call_exactly}
 use Rattle.writer.specs.Writer.{Written, outcome, answer}
+use Rattle.writer.specs.WriterLaws.{not_barred_alike}
 use Rattle.claims.specs.Numbers.{upper_bits}
 use Rattle.claims.specs.Lines.{recessive}
 use Rattle.claims.specs.OldControllers.{Barred, upper_seven}
@@ -49,10 +50,6 @@ module _ (f : Frame) (old : Bool) (c : List ℕ) (start : ℕ) where
   too_large_alike : too_large f.ident ≡ true → answer f old c start ≡ answer f false c start
   unfolding answer refusal
   too_large_alike e = rw e
-
-  not_barred_alike : barred old f.ident ≡ false → answer f old c start ≡ answer f false c start
-  unfolding answer refusal
-  not_barred_alike e = rw (e, barred_unmarked f.ident)
 
 module _ (f : Frame) (old : Bool) (c c' : List ℕ) (start : ℕ) (w : Written) (says : outcome w c' ≡ answer f old c start) where
   given : (w.refusal ≡ 8) ↔ (None (row 1 (too_large f.ident) ∷ []) × (barred old f.ident ≡ true))

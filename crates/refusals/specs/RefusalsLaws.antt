@@ -84,6 +84,11 @@ taken_unmarked f old ok =
     let none = (none_exactly (frame_rows f old) refl).0 ok in
     (none_exactly (frame_rows f false) refl).1 (none.0, (barred_unmarked f.ident, none.1.1))
 
+-- nor is its identifier barred
+pub taken_not_barred : (f : Frame) (old : Bool) → frame_refusal f old ≡ 0 → barred old f.ident ≡ false
+unfolding frame_refusal
+taken_not_barred f old ok = ((none_exactly (frame_rows f old) refl).0 ok).1.0
+
 -- what a frame that is not refused keeps to
 module _ (f : Frame) (ok : frame_refusal f false ≡ 0) where
   none : None (frame_rows f false)

@@ -1,11 +1,11 @@
--- Laws shaped like what the branches of `write` leave to show: what a call of the writer answers.
-use Rattle.std.proofs.Common.{ℕ, ◌+◌, ◌-◌, ◌≤◌, ◌≡◌, refl, sym, ap, ◌∙◌, Bool, false, cond, List, ◌++◌, append_assoc, append-nil, zero-add, arith, eqb, length, take, drop, length-drop, drop_of_length-le, take_all, take_at, drop-drop, eq-eqb, ne_eqb}
+-- Laws shaped like what the branches of `write` and `place` leave to show: what a call of the writer answers.
+use Rattle.std.proofs.Common.{ℕ, ◌+◌, ◌-◌, ◌≤◌, ◌≡◌, refl, sym, ap, ◌∙◌, Bool, List, ◌++◌, append_assoc, append-nil, zero-add, arith, length, take, drop, length-drop, drop_of_length-le, take_all, take_at, drop-drop, eq-eqb, ne_eqb}
 use Rattle.std.proofs.lemmas.List.Edits.{sets, sets-eq}
 use Rattle.wire.specs.declared.frames.Frame.{Frame}
 use Rattle.wire.specs.Numbers.{longest_extended}
 use Rattle.writer.specs.declared.page.Page.{Page}
 use Rattle.refusals.specs.Refusals.{frame_refusal, place_refusal, refusal}
-use Rattle.refusals.specs.RefusalsLaws.{taken_unmarked, start_fits, bits_fit}
+use Rattle.refusals.specs.RefusalsLaws.{start_fits, bits_fit}
 use Rattle.writer.specs.Writer.{wire_bits, outcome, refused, answer}
 use Rattle.writer.specs.WriterLaws.{refusal-first}
 use Rattle.writer.specs.Pages.{new_page, marks}
@@ -40,16 +40,13 @@ front : new_page.pen.at ≡ 0
 unfolding new_page
 front = refl
 
-module _ (f : Frame) (old : Bool) (c : List ℕ) (start no : ℕ) (own : no ≡ frame_refusal f old) where
-  refusal_by : refusal f old (length (wire_bits f)) (length c) start ≡ cond (eqb no 0) (place_refusal (length (wire_bits f)) (length c) start) no
-  refusal_by = rw own (refusal-first f old c start)
-
-  pub answer_frame : (no ≡ 0 → ⊥) → refused no c ≡ answer f old c start
+module _ (f : Frame) (old : Bool) (c : List ℕ) (start : ℕ) where
+  pub answer_frame : (n : ℕ) → n ≡ frame_refusal f old → (n ≡ 0 → ⊥) → refused n c ≡ answer f old c start
   unfolding answer
-  answer_frame h = rw (refusal_by, ne_eqb no 0 h, ne_eqb no 0 h)
+  answer_frame n own h = rw (refusal-first f old c start, ← own, ne_eqb n 0 h, ne_eqb n 0 h)
 
   -- the image is drawn on a page that has room for it
-  module _ (z : no ≡ 0) (p : Page) (all : p ≡ marks new_page (wire_bits f)) where
+  module _ (taken : frame_refusal f old ≡ 0) (p : Page) (all : p ≡ marks new_page (wire_bits f)) where
     fits_new : new_page.pen.at + length (wire_bits f) ≤ length new_page.out
     fits_new = omega (arith, front, room_for, sent-length f)
 
@@ -69,7 +66,7 @@ module _ (f : Frame) (old : Bool) (c : List ℕ) (start no : ℕ) (own : no ≡ 
 
     module _ (misplaced : ℕ) (told : misplaced ≡ place_refusal p.pen.at (length c) start) where
       refusal_is : refusal f old (length (wire_bits f)) (length c) start ≡ misplaced
-      refusal_is = rw (refusal_by, eq-eqb no 0 z, ← measured) (sym told)
+      refusal_is = rw (refusal-first f old c start, taken, ← measured) (sym told)
 
       pub answer_misplaced : (misplaced ≡ 0 → ⊥) → refused misplaced c ≡ answer f old c start
       unfolding answer
@@ -84,9 +81,3 @@ module _ (f : Frame) (old : Bool) (c : List ℕ) (start no : ℕ) (own : no ≡ 
           let room = bits_fit p.pen.at (length c) start misplaced told n in
           rw (refusal_is, eq-eqb misplaced 0 n)
           (rw (e, whole, middle c (wire_bits f) start inside (omega (arith, room, measured)), measured))
-
--- a frame that is not refused is answered as it is where nothing is marked
-pub answer_unmarked : (f : Frame) (old : Bool) (c : List ℕ) (start : ℕ) → frame_refusal f old ≡ 0 → answer f false c start ≡ answer f old c start
-unfolding answer
-answer_unmarked f old c start z =
-    rw (refusal_by f old c start 0 (sym z), refusal_by f false c start 0 (sym (taken_unmarked f old z))) refl

@@ -5,8 +5,8 @@ use Rattle.std.proofs.Common.{sym, ap, ◌∙◌, append_assoc, arith, length-ap
 use Rattle.std.proofs.Math.ListN.{get_or-append}
 use Rattle.std.proofs.lemmas.Bool.{eqb-false}
 use Rattle.wire.specs.declared.frames.Frame.{Frame}
-use Rattle.refusals.specs.Refusals.{Row, frame_rows, place_rows, frame_refusal, place_refusal, refusal}
-use Rattle.refusals.specs.RefusalsLaws.{taken_unmarked, first-append, start_fits, bits_fit}
+use Rattle.refusals.specs.Refusals.{Row, barred, frame_rows, place_rows, frame_refusal, place_refusal, refusal}
+use Rattle.refusals.specs.RefusalsLaws.{barred_unmarked, taken_unmarked, first-append, start_fits, bits_fit}
 use Rattle.writer.specs.Writer.{wire_bits, Written, Outcome, outcome, refused, placed, answer}
 
 module _ (f : Frame) (old : Bool) (c : List ℕ) (start : ℕ) where
@@ -29,6 +29,11 @@ module _ (f : Frame) (old : Bool) (c : List ℕ) (start : ℕ) where
   answer-placed : no ≡ 0 → answer f old c start ≡ placed (wire_bits f) c start
   unfolding answer
   answer-placed z = rw (eq-eqb no 0 z)
+
+  -- the "old controllers" mark changes nothing where the identifier is not barred
+  pub not_barred_alike : barred old f.ident ≡ false → answer f old c start ≡ answer f false c start
+  unfolding answer refusal
+  not_barred_alike e = rw (e, barred_unmarked f.ident)
 
   -- not refused: neither by the frame itself nor by the place
   free : no ≡ 0 → (frame_refusal f old ≡ 0) × (place_refusal (length (wire_bits f)) (length c) start ≡ 0)

@@ -2,8 +2,9 @@
 use Rattle.std.proofs.Common.{sym, ◌∙◌}
 use Rattle.std.proofs.lemmas.Result.{err_from_is_err_and}
 use Rattle.refusals.specs.RefusalLaws.{number-some}
-use Rattle.refusals.specs.RefusalsLaws.{taken_unmarked}
-use Rattle.writer.proofs.Answers.{answer_frame, answer_unmarked}
+use Rattle.refusals.specs.RefusalsLaws.{taken_unmarked, taken_not_barred}
+use Rattle.writer.specs.WriterLaws.{not_barred_alike}
+use Rattle.writer.proofs.Answers.{answer_frame}
 use Rattle.writer.proofs.capture.write.Goals as goal
 
 pub returns-in_err-frame_refusal : goal.returns-in_err-frame_refusal
@@ -15,4 +16,6 @@ pub place-requires : goal.place-requires
 place-requires c = taken_unmarked _ _ (sym c.in_ok-frame_refusal.ensures)
 
 pub returns : goal.returns
-returns c = c.place.ensures ∙ answer_unmarked _ _ c.args.capture.now c.args.start (sym c.in_ok-frame_refusal.ensures)
+returns c =
+    c.place.ensures
+    ∙ sym (not_barred_alike _ _ c.args.capture.now c.args.start (taken_not_barred _ _ (sym c.in_ok-frame_refusal.ensures)))
